@@ -1,0 +1,40 @@
+//! Admits the plan of one housing block to its line: prints each call with its outcome, then the sum of shares and every record.
+mod calls;
+mod outcomes;
+mod plan;
+
+use judge::Threshold;
+use judge::ThresholdJudge;
+use line::Line;
+use plan::ENROLMENTS;
+use plan::RESERVATIONS;
+use plan::STRANGER;
+use std::io;
+
+fn main(rt: LibcRuntime) -> io::Result<()> {
+    let mut line = Line::new(Threshold);
+    for reservation in RESERVATIONS {
+        calls::reserve(&rt, &mut line, reservation)?;
+    }
+    for enrolment in ENROLMENTS {
+        calls::enrol(&rt, &mut line, enrolment)?;
+    }
+    let clock = line.clock();
+    let unused = line.unused();
+    let shares = line.shares();
+    println!(
+        rt,
+        "clock {clock}, unused {unused}, shares {shares} of 3600"
+    )?;
+    for number in 0..32 {
+        if line.service(number).is_ok() {
+            calls::ask_service(&rt, &line, number)?;
+        }
+    }
+    for number in 0..256 {
+        if line.point(number).is_ok() {
+            calls::ask_point(&rt, &line, number)?;
+        }
+    }
+    calls::ask_point(&rt, &line, STRANGER)
+}

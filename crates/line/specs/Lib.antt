@@ -1,0 +1,9 @@
+pub mod Borders
+pub mod Bounds
+pub mod Calls
+pub mod Laws
+pub mod Points
+pub mod Refusals
+pub mod Services
+pub mod Sound
+pub mod Sums
