@@ -5,7 +5,10 @@ mod plan;
 
 use judge::Threshold;
 use judge::ThresholdJudge;
+use line::FULL_SHARE;
 use line::Line;
+use line::POINTS;
+use line::SERVICES;
 use plan::ENROLMENTS;
 use plan::RESERVATIONS;
 use plan::STRANGER;
@@ -22,16 +25,17 @@ fn main(rt: LibcRuntime) -> io::Result<()> {
     let clock = line.clock();
     let unused = line.unused();
     let shares = line.shares();
+    let full = FULL_SHARE;
     println!(
         rt,
-        "clock {clock}, unused {unused}, shares {shares} of 3600"
+        "clock {clock}, unused {unused}, shares {shares} of {full}"
     )?;
-    for number in 0..32 {
+    for number in 0..SERVICES as u32 {
         if line.service(number).is_ok() {
             calls::ask_service(&rt, &line, number)?;
         }
     }
-    for number in 0..256 {
+    for number in 0..POINTS as u32 {
         if line.point(number).is_ok() {
             calls::ask_point(&rt, &line, number)?;
         }

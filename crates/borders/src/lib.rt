@@ -5,4 +5,6 @@ mod judges;
 #[cfg(test)]
 mod lines;
 #[cfg(test)]
-mod refusals;
+mod steady;
+#[cfg(test)]
+mod texts;

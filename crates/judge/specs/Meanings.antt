@@ -36,7 +36,7 @@ by-slope result (Some earlier) threshold most = cond (leZ threshold (pos (distan
 abbrev pub grade-width : ℕ → ℕ
 grade-width width = cond (eqb width 0) 1 width
 
--- important from the threshold upwards, and below it one more with each whole width that the result falls short
+-- important from the threshold upwards; 2 within the first width below it, 3 within the second, and so on, up to the most
 abbrev pub by-grades : ℕ → Meaning
 by-grades width result before threshold most =
     cond (leZ threshold result) 1 (min most (2 + (distance threshold result - 1) / grade-width width))

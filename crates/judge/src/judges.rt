@@ -51,7 +51,7 @@ pub impl Judge for Slope as SlopeJudge {
     }
 }
 
-/// Stretches a job further the more its result falls short of the threshold, by one for each whole width.
+/// Stretches a job further the more its result falls short of the threshold: 2 within the first width, 3 within the second.
 #[derive(Clone, Copy)]
 pub struct Graded {
     width: u16,
@@ -73,13 +73,9 @@ pub impl Judge for Graded as GradedJudge {
         if result >= threshold {
             return 1;
         }
-        let width = if self.width == 0 { 1 } else { self.width };
+        let width = self.width.max(1);
         let short = threshold.abs_diff(result);
         let grade = 2 + (short as u64 - 1) / width as u64;
-        if grade < max_stretch as u64 {
-            grade as u32
-        } else {
-            max_stretch
-        }
+        grade.min(max_stretch as u64) as u32
     }
 }

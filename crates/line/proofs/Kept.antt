@@ -6,7 +6,7 @@ use lib.ListN.{length}
 use Rattle.line.specs.declared.lines.Line.{Line}
 use Rattle.line.specs.declared.schedule.Schedule.{Schedule}
 use Rattle.line.specs.Bounds.{full-share, service-places, point-places}
-use Rattle.line.specs.Points.{point-at, served-by}
+use Rattle.line.specs.Points.{point-at, has-service}
 use Rattle.line.specs.Services.{service-at, shares-of, fit}
 use Rattle.line.specs.Sound.{Sound}
 
@@ -15,7 +15,7 @@ kept line = record { within = line .within; fits = line .fits; belongs = line .b
 
 -- the same facts, in the order in which a line owes them
 abbrev pub Owed : Schedule → Type 0
-Owed s = (shares-of (s .services) ≤ full-share) × (((number : ℕ) → fit (service-at (s .services) number) ≡ true) × (((number : ℕ) → served-by (s .services) (point-at (s .points) number) ≡ true) × ((length (s .services .records) ≡ service-places) × ((length (s .points .records) ≡ point-places) × Unit {0}))))
+Owed s = (shares-of (s .services) ≤ full-share) × (((number : ℕ) → fit (service-at (s .services) number) ≡ true) × (((number : ℕ) → has-service (s .services) (point-at (s .points) number) ≡ true) × ((length (s .services .records) ≡ service-places) × ((length (s .points .records) ≡ point-places) × Unit {0}))))
 
 pub owed : (after rule : Schedule) → after ≡ rule → Sound rule → Owed after
 owed after rule is sound =

@@ -18,7 +18,7 @@ use Rattle.line.specs.declared.services.Service.{Service}
 use Rattle.line.specs.declared.services.Services.{Services}
 use Rattle.line.specs.Bounds.{full-share, service-places, point-places}
 use Rattle.line.specs.Calls.{fresh, reserve-answer, reserved, after-reserve, enrol-answer, enrolled, after-enrol}
-use Rattle.line.specs.Points.{new-point, point-at, served-by}
+use Rattle.line.specs.Points.{new-point, point-at, has-service}
 use Rattle.line.specs.Services.{bad-period, bad-budget, bad-stretch, share-of, new-service, no-services, service-at, with-service, shares-of, fit}
 use Rattle.line.specs.Sound.{Sound}
 use Rattle.line.specs.Sums.{sum-below}
@@ -36,7 +36,7 @@ pub fresh-sound : Sound fresh
 fresh-sound = record {
   within = omega (arith, no-shares);
   fits = λ number. ap fit (none-anywhere service-places number);
-  belongs = λ number. ap (served-by no-services) (none-anywhere point-places number);
+  belongs = λ number. ap (has-service no-services) (none-anywhere point-places number);
   services = refl;
   points = refl;
 }
@@ -63,9 +63,9 @@ admitted line number budget period most done =
     record { inside = first .0; free = second .0; good-period = third .0; good-budget = fourth .0; good-stretch = fifth .0; room = sixth .0 }
 
 -- a point keeps its service when another is reserved
-still-served : (services : Services) (number : ℕ) (service : Service) → number < length (services .records) → (held : Option Point) → served-by services held ≡ true → served-by (with-service services number service) held ≡ true
-still-served services number service inside None was = refl
-still-served services number service inside (Some point) was = still-there (services .records) number service inside (point .service) was
+keeps-service : (services : Services) (number : ℕ) (service : Service) → number < length (services .records) → (held : Option Point) → has-service services held ≡ true → has-service (with-service services number service) held ≡ true
+keeps-service services number service inside None was = refl
+keeps-service services number service inside (Some point) was = still-there (services .records) number service inside (point .service) was
 
 reserved-sound : (line : Schedule) (number budget period most : ℕ) → Sound line → Admitted line number budget period most → Sound (reserved line number budget period most)
 reserved-sound line number budget period most sound ok =
@@ -78,7 +78,7 @@ reserved-sound line number budget period most sound ok =
     record {
       within = omega arith;
       fits = everywhere (λ held. fit held ≡ true) (line .services .records) number new inside (sound .fits) new-fit;
-      belongs = λ k. still-served (line .services) number new inside (point-at (line .points) k) (sound .belongs k);
+      belongs = λ k. keeps-service (line .services) number new inside (point-at (line .points) k) (sound .belongs k);
       services = length-set _ number _ ∙ sound .services;
       points = sound .points;
     }
@@ -110,7 +110,7 @@ enrolled-sound line point service threshold sound ok =
     record {
       within = sound .within;
       fits = sound .fits;
-      belongs = everywhere (λ held. served-by (line .services) held ≡ true) (line .points .records) point (new-point service threshold) inside (sound .belongs) (ok .known);
+      belongs = everywhere (λ held. has-service (line .services) held ≡ true) (line .points .records) point (new-point service threshold) inside (sound .belongs) (ok .known);
       services = sound .services;
       points = length-set _ point _ ∙ sound .points;
     }

@@ -19,7 +19,7 @@ use Rattle.line.specs.declared.schedule.Schedule.{Schedule}
 use Rattle.line.specs.Bounds.{service-places, point-places}
 use Rattle.line.specs.Calls.{reserve-answer, reserved, after-reserve, enrol-answer, enrolled, after-enrol, service-answer, point-answer}
 use Rattle.line.specs.Laws.{Reserves, Enrols, Belongs}
-use Rattle.line.specs.Points.{new-point, point-at, point-record, served-by}
+use Rattle.line.specs.Points.{new-point, point-at, point-record, has-service}
 use Rattle.line.specs.Refusals.{settled}
 use Rattle.line.specs.Services.{new-service, service-at}
 use Rattle.line.specs.Sound.{Sound}
@@ -93,7 +93,7 @@ found-service line number sound there =
 pub point-belongs : (line : Schedule) (number : ℕ) → Sound line → Belongs line (point-answer line number)
 point-belongs line number sound = go (leb point-places number) (point-at (line .points) number) (sound .belongs number)
   where
-    go : (b : Bool) (held : Option Point) → served-by (line .services) held ≡ true → Belongs line (cond b (Err NoSuchPoint) (okOr (mapped point-record held) PointUnknown))
-    go true held served = tt
-    go false None served = tt
-    go false (Some point) served = found-service line (point .service) sound served
+    go : (b : Bool) (held : Option Point) → has-service (line .services) held ≡ true → Belongs line (cond b (Err NoSuchPoint) (okOr (mapped point-record held) PointUnknown))
+    go true held there = tt
+    go false None there = tt
+    go false (Some point) there = found-service line (point .service) sound there

@@ -33,9 +33,9 @@ abbrev pub with-point : Points → ℕ → Point → Points
 with-point points number point = record { records = set (points .records) number (Some point) }
 
 -- what a record holds belongs to a service that is reserved
-abbrev pub served-by : Services → Option Point → Bool
-served-by services None = true
-served-by services (Some point) = isSome (service-at services (point .service))
+abbrev pub has-service : Services → Option Point → Bool
+has-service services None = true
+has-service services (Some point) = isSome (service-at services (point .service))
 
 -- what the question tells of a point
 abbrev pub point-record : Point → PointRecord

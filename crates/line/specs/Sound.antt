@@ -5,7 +5,7 @@ use Prim.Native.Nat.{ℕ, _≤_}
 use lib.ListN.{length}
 use Rattle.line.specs.declared.schedule.Schedule.{Schedule}
 use Rattle.line.specs.Bounds.{full-share, service-places, point-places}
-use Rattle.line.specs.Points.{point-at, served-by}
+use Rattle.line.specs.Points.{point-at, has-service}
 use Rattle.line.specs.Services.{service-at, shares-of, fit}
 
 -- the facts of a line's own invariant, as one
@@ -15,7 +15,7 @@ pub record Sound (line : Schedule) : Type 0 where
   -- each service could be reserved as it stands
   pub fits : (number : ℕ) → fit (service-at (line .services) number) ≡ true
   -- each point belongs to a service that is reserved
-  pub belongs : (number : ℕ) → served-by (line .services) (point-at (line .points) number) ≡ true
+  pub belongs : (number : ℕ) → has-service (line .services) (point-at (line .points) number) ≡ true
   -- the tables keep their sizes
   pub services : length (line .services .records) ≡ service-places
   pub points : length (line .points .records) ≡ point-places

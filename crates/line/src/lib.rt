@@ -8,6 +8,7 @@ mod schedule;
 mod services;
 
 pub use lines::Line;
+pub use points::POINTS;
 pub use points::PointRecord;
 pub use points::PointRecordDebug;
 pub use points::PointRecordPartialEq;
@@ -15,6 +16,9 @@ pub use refusals::Refusal;
 pub use refusals::RefusalDebug;
 pub use refusals::RefusalDisplay;
 pub use refusals::RefusalPartialEq;
+pub use services::FULL_SHARE;
+pub use services::SERVICES;
+pub use services::STRETCH_LIMIT;
 pub use services::Service;
 pub use services::ServiceDebug;
 pub use services::ServicePartialEq;

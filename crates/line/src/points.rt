@@ -2,8 +2,8 @@
 ghost use mathlib.Core.Path.{_≡_};
 ghost use Rattle.line.specs.Points.{new-point, no-points, point-record};
 
-// Points are numbered 0 to 255.
-pub(crate) const POINTS: usize = 256;
+/// Points are numbered 0 to 255.
+pub const POINTS: usize = 256;
 
 // What a line keeps of a point.
 #[derive(Clone, Copy)]

@@ -8,14 +8,14 @@ ghost use Rattle.line.specs.Bounds.{full-share, service-places};
 ghost use Rattle.line.specs.Services.{new-service, no-services, service-at, share-of, record-share, shares-of, fit, state-words};
 use std::fmt;
 
-// The share of a whole line: the slots of an hour, one a second.
-pub(crate) const FULL_SHARE: u32 = 3600;
+/// The share of a whole line: the slots of an hour, one a second.
+pub const FULL_SHARE: u32 = 3600;
 
-// Services are numbered 0 to 31.
-pub(crate) const SERVICES: usize = 32;
+/// Services are numbered 0 to 31.
+pub const SERVICES: usize = 32;
 
-// No service stretches its jobs further.
-pub(crate) const STRETCH_LIMIT: u32 = 16;
+/// No service stretches its jobs further.
+pub const STRETCH_LIMIT: u32 = 16;
 
 /// What a service does at the moment. A wake moment is the clock at which its budget is replenished.
 #[derive(Clone, Copy, PartialEq, Eq, Debug)]

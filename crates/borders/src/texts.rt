@@ -1,6 +1,8 @@
-//! The table of refusals: every number and its words.
+//! What is printed: every refusal with its number, and the states.
 use line::Refusal;
 use line::RefusalDisplay;
+use line::State;
+use line::StateDisplay;
 use std::test::*;
 
 const TABLE: [(Refusal, u32, &str); 15] = [
@@ -26,6 +28,22 @@ fn each_refusal_has_its_number_and_words(rt: LibcRuntime) -> Result<(), Fail> {
     for (refusal, number, words) in TABLE {
         check_eq(refusal.number(), number)?;
         let printed = refusal.to_string(rt.alloc())?;
+        check_eq(printed.as_str(), words)?;
+    }
+    Ok(())
+}
+
+const STATES: [(State, &str); 4] = [
+    (State::Empty, "empty"),
+    (State::Active, "active"),
+    (State::ShortWait(22), "short wait to 22"),
+    (State::LongWait(4000057600), "long wait to 4000057600"),
+];
+
+#[test]
+fn a_wait_is_printed_with_its_wake_moment(rt: LibcRuntime) -> Result<(), Fail> {
+    for (state, words) in STATES {
+        let printed = state.to_string(rt.alloc())?;
         check_eq(printed.as_str(), words)?;
     }
     Ok(())
