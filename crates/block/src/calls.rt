@@ -1,15 +1,19 @@
 //! Each call on the line, printed with its outcome.
 ghost use mathlib.Core.Path.{_≡_};
-ghost use Rattle.line.specs.Calls.{after-reserve, after-enrol};
+ghost use Rattle.line.specs.Calls.{after-reserve, after-enrol, after-request};
 use crate::outcomes::Outcome;
 use crate::outcomes::OutcomeDisplay;
 use crate::plan::Enrolment;
 use crate::plan::Reservation;
 use judge::Judge;
 use line::Line;
+use line::POINTS;
 use line::PointRecord;
+use line::SERVICES;
 use line::Service;
+use line::State;
 use line::StateDisplay;
+use line::StatePartialEq;
 use std::io;
 
 pub(crate) fn reserve<J: Judge>(
@@ -51,6 +55,87 @@ pub(crate) fn enrol<J: Judge>(
         rt,
         "enrol {point}: service {service}, threshold {threshold}: {outcome}"
     )
+}
+
+pub(crate) fn request<J: Judge>(rt: &LibcRuntime, line: &mut Line<J>, point: u32) -> io::Result<()>
+    ensures after { λ _. ⌜ now (line .exit) .schedule ≡ after-request (now (line .entry) .schedule) point ⌝ }
+    ensures judge { λ _. ⌜ now (line .exit) .judge ≡ now (line .entry) .judge ⌝ }
+{
+    let outcome = Outcome::new(line.request(point));
+    println!(rt, "request {point}: {outcome}")
+}
+
+pub(crate) fn ask_who<J: Judge>(rt: &LibcRuntime, line: &Line<J>) -> io::Result<()>
+    ensures { λ _. ⌜ now (line .exit) ≡ now (line .entry) ⌝ }
+{
+    match line.who() {
+        Some((service, point)) => println!(rt, "next slot: service {service}, point {point}"),
+        None => println!(rt, "next slot: nobody"),
+    }
+}
+
+// Why the next slot is this service's and this point's: the deadlines of all active services, and the service's waiting jobs.
+pub(crate) fn tell_why<J: Judge>(rt: &LibcRuntime, line: &Line<J>) -> io::Result<()>
+    ensures { λ _. ⌜ now (line .exit) ≡ now (line .entry) ⌝ }
+{
+    let Some((first, head)) = line.who() else {
+        return println!(rt, "no service is active");
+    };
+    println!(rt, "service {first} has the first deadline:")?;
+    for number in 0..SERVICES as u32 {
+        tell_turn(rt, line, number)?;
+    }
+    println!(
+        rt,
+        "point {head} was requested first of the smallest stretch:"
+    )?;
+    for number in 0..POINTS as u32 {
+        tell_job(rt, line, first, number)?;
+    }
+    Ok(())
+}
+
+fn tell_turn<J: Judge>(rt: &LibcRuntime, line: &Line<J>, number: u32) -> io::Result<()>
+    ensures { λ _. ⌜ now (line .exit) ≡ now (line .entry) ⌝ }
+{
+    match line.service(number) {
+        Ok(
+            Service {
+                deadline,
+                state,
+                ..
+            },
+        ) => {
+            if state == State::Active {
+                println!(rt, "  service {number} has deadline {deadline}")
+            } else {
+                Ok(())
+            }
+        }
+        Err(_) => Ok(()),
+    }
+}
+
+fn tell_job<J: Judge>(rt: &LibcRuntime, line: &Line<J>, of: u32, number: u32) -> io::Result<()>
+    ensures { λ _. ⌜ now (line .exit) ≡ now (line .entry) ⌝ }
+{
+    match line.point(number) {
+        Ok(
+            PointRecord {
+                service,
+                stretch,
+                waiting,
+                ..
+            },
+        ) => {
+            if waiting && service == of {
+                println!(rt, "  point {number} waits with stretch {stretch}")
+            } else {
+                Ok(())
+            }
+        }
+        Err(_) => Ok(()),
+    }
 }
 
 pub(crate) fn ask_service<J: Judge>(rt: &LibcRuntime, line: &Line<J>, number: u32) -> io::Result<()>

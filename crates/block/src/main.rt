@@ -1,4 +1,5 @@
-//! Admits the plan of one housing block to its line: prints each call with its outcome, then the sum of shares and every record.
+//! Plays one housing block: admits its plan to the line, requests jobs of every service, and prints each call with its outcome
+//! and whom the next slot would run, then why, the sum of shares and every record.
 mod calls;
 mod outcomes;
 mod plan;
@@ -10,6 +11,7 @@ use line::Line;
 use line::POINTS;
 use line::SERVICES;
 use plan::ENROLMENTS;
+use plan::REQUESTS;
 use plan::RESERVATIONS;
 use plan::STRANGER;
 use std::io;
@@ -22,6 +24,12 @@ fn main(rt: LibcRuntime) -> io::Result<()> {
     for enrolment in ENROLMENTS {
         calls::enrol(&rt, &mut line, enrolment)?;
     }
+    calls::ask_who(&rt, &line)?;
+    for point in REQUESTS {
+        calls::request(&rt, &mut line, point)?;
+        calls::ask_who(&rt, &line)?;
+    }
+    calls::tell_why(&rt, &line)?;
     let clock = line.clock();
     let unused = line.unused();
     let shares = line.shares();

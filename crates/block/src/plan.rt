@@ -1,5 +1,5 @@
 //! The plan of the block: five services, and the meters of twelve flats with their boilers, alarms, tariff clock and heat.
-//! Some calls are wrong, each in another way.
+//! Then the requests at the quarter mark. Some calls are wrong, each in another way.
 
 #[derive(Clone, Copy)]
 pub(crate) struct Reservation {
@@ -223,3 +223,31 @@ pub(crate) const ENROLMENTS: [Enrolment; 24] = [
 
 // A point that nobody enrolled.
 pub(crate) const STRANGER: u32 = 12;
+
+// The points in the order of their requests; each kind is more urgent than those before it.
+pub(crate) const REQUESTS: [u32; 16] = [
+    // The tariff clock.
+    255,
+    // Four of the flats, the newest first.
+    11,
+    0,
+    1,
+    7,
+    // Heat.
+    61,
+    60,
+    // The boilers' relays.
+    41,
+    40,
+    // The alarms, the frost first.
+    52,
+    50,
+    51,
+    // The frost alarm and the tariff clock wait already.
+    52,
+    255,
+    // Nobody enrolled this one.
+    STRANGER,
+    // There is no point 256.
+    256,
+];

@@ -1,8 +1,15 @@
 pub mod Bordered
+pub mod Fitting
+pub mod Happened
+pub mod Heads
 pub mod Kept
+pub mod Named
+pub mod Read
 pub mod Refused
+pub mod Requested
 pub mod Shares
 pub mod Soundness
+pub mod Standing
 pub mod Summed
 pub mod Tables
 pub mod Told

@@ -9,8 +9,8 @@ use Rattle.line.specs.declared.services.Service.{Service}
 use Rattle.line.specs.declared.services.Services.{Services}
 use Rattle.line.specs.Bounds.{full-share, service-places}
 use Rattle.line.specs.Services.{service-at, with-service, record-share, share-at, shares-of}
-use Rattle.line.proofs.Summed.{sum-changed}
-use Rattle.line.proofs.Tables.{at-new, at-other}
+use Rattle.line.proofs.Summed.{sum-same, sum-changed}
+use Rattle.line.proofs.Tables.{at-new, at-other, nowhere-changed}
 
 -- a budget within its period has a share within the full one
 pub share-bound : (budget period : ℕ) → budget ≤ period → budget * (full-share / period) ≤ full-share
@@ -23,3 +23,8 @@ shares-more services number service size inside free =
     let here = ap record-share (at-new (services .records) number service (omega arith)) in
     let none = ap record-share free in
     omega arith
+
+-- a service that keeps its share keeps their sum
+pub shares-kept : (services : Services) (number : ℕ) (service : Service) → number < length (services .records) → record-share (Some service) ≡ share-at services number → shares-of (with-service services number service) ≡ shares-of services
+shares-kept services number service inside same =
+    sum-same (share-at services) (share-at (with-service services number service)) service-places (λ k below. nowhere-changed (λ n held. record-share held) (services .records) number service inside same k)

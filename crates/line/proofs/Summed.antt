@@ -1,7 +1,7 @@
 -- Sums over a table: one place more, and a change at one place. Assumes nothing.
 use mathlib.Core.Path.{_≡_, refl, ap}
 use mathlib.Core.Logic.{⊎-elim}
-use Prim.Native.Nat.{ℕ, zero, suc, _+_, _<_}
+use Prim.Native.Nat.{ℕ, zero, suc, _+_, _≤_, _<_}
 use native.Mathlib.Numerals.{add-one}
 use native.Mathlib.Omega.{arith}
 use Rattle.std.proofs.shelf.Tests.{cases-eq}
@@ -22,6 +22,15 @@ sum-same f g zero same = refl
 sum-same f g (suc n) same =
     let before = sum-same f g n (λ k below. same k (omega arith)) in
     let here = same n (omega arith) in
+    omega arith
+
+-- amounts of at most 1 have a sum of at most their number
+pub sum-at-most : (amount : ℕ → ℕ) (n : ℕ) → ((k : ℕ) → amount k ≤ 1) → sum-below amount n ≤ n
+unfolding sum-below
+sum-at-most amount zero one = omega arith
+sum-at-most amount (suc n) one =
+    let before = sum-at-most amount n one in
+    let here = one n in
     omega arith
 
 -- amounts that agree everywhere but at one place differ in their sums by what they differ there

@@ -32,12 +32,24 @@ module _ {X : Type 0} where
   pub at-other : (records : List (Option X)) (number : ℕ) (x : X) (k : ℕ) → (k ≡ number → ⊥) → getD (set records number (Some x)) k None ≡ getD records k None
   at-other records number x k other = getD-set-other records number k (Some x) None other
 
-  -- what holds of every record, and of a new one, holds of every record with the new one among them
-  pub everywhere : (Q : Option X → Type 0) (records : List (Option X)) (number : ℕ) (x : X) → number < length records → ((k : ℕ) → Q (getD records k None)) → Q (Some x) → (k : ℕ) → Q (getD (set records number (Some x)) k None)
-  everywhere Q records number x inside all new k =
+  -- what holds at every place, and of a new record at its own, holds at every place with the new one among them
+  pub at-every-place : (Q : ℕ → Option X → Type 0) (records : List (Option X)) (number : ℕ) (x : X) → number < length records → ((k : ℕ) → Q k (getD records k None)) → Q number (Some x) → (k : ℕ) → Q k (getD (set records number (Some x)) k None)
+  at-every-place Q records number x inside all new k =
       ⊎-elim
-      (λ here. subst (λ n. Q (getD (set records number (Some x)) n None)) (sym here) (subst Q (sym (at-new records number x inside)) new))
-      (λ other. subst Q (sym (at-other records number x k other)) (all k))
+      (λ here. subst (λ n. Q n (getD (set records number (Some x)) n None)) (sym here) (subst (Q number) (sym (at-new records number x inside)) new))
+      (λ other. subst (Q k) (sym (at-other records number x k other)) (all k))
+      (cases-eq k number)
+
+  -- the same of what does not depend on the place
+  pub everywhere : (Q : Option X → Type 0) (records : List (Option X)) (number : ℕ) (x : X) → number < length records → ((k : ℕ) → Q (getD records k None)) → Q (Some x) → (k : ℕ) → Q (getD (set records number (Some x)) k None)
+  everywhere Q = at-every-place (λ k. Q)
+
+  -- what a record put in its place has in common with the one before, every place has
+  pub nowhere-changed : {Y : Type 0} (f : ℕ → Option X → Y) (records : List (Option X)) (number : ℕ) (x : X) → number < length records → f number (Some x) ≡ f number (getD records number None) → (k : ℕ) → f k (getD (set records number (Some x)) k None) ≡ f k (getD records k None)
+  nowhere-changed f records number x inside same k =
+      ⊎-elim
+      (λ here. subst (λ n. f n (getD (set records number (Some x)) n None) ≡ f n (getD records n None)) (sym here) (ap (f number) (at-new records number x inside) ∙ same))
+      (λ other. ap (f k) (at-other records number x k other))
       (cases-eq k number)
 
   -- who was there is there still

@@ -1,7 +1,7 @@
 -- The laws of calls that are done. Assumes nothing.
 use mathlib.Core.Bool.{Bool, true, false, cond}
 use mathlib.Core.Path.{_≡_, refl, sym, ap, subst, _∙_}
-use Prim.Native.Nat.{ℕ}
+use Prim.Native.Nat.{ℕ, _<_}
 use native.Mathlib.Omega.{arith}
 use lib.Dec.{leb}
 use lib.IntN.{ℤ}
@@ -12,20 +12,30 @@ use Rattle.std.specs.declared.option.Option.{Option}
 use Rattle.std.specs.declared.option.Option.the-variants.{Some, None}
 use Rattle.std.specs.declared.result.Result.{Result}
 use Rattle.std.specs.declared.result.Result.the-variants.{Ok, Err}
+use Rattle.line.specs.declared.events.Event.the-variants.{Request}
 use Rattle.line.specs.declared.points.Point.{Point}
 use Rattle.line.specs.declared.refusals.Refusal.{Refusal}
 use Rattle.line.specs.declared.refusals.Refusal.the-variants.{NoSuchService, NoSuchPoint, ServiceUnknown, PointUnknown}
 use Rattle.line.specs.declared.schedule.Schedule.{Schedule}
+use Rattle.line.specs.declared.services.Service.{Service}
 use Rattle.line.specs.Bounds.{service-places, point-places}
-use Rattle.line.specs.Calls.{reserve-answer, reserved, after-reserve, enrol-answer, enrolled, after-enrol, service-answer, point-answer}
-use Rattle.line.specs.Laws.{Reserves, Enrols, Belongs}
-use Rattle.line.specs.Points.{new-point, point-at, point-record, has-service}
+use Rattle.line.specs.Calls.{reserve-answer, reserved, after-reserve, enrol-answer, enrolled, after-enrol, request-answer, requested, after-request, who-of, service-answer, point-answer}
+use Rattle.line.specs.Laws.{Reserves, Enrols, Requests, Belongs, Stretched}
+use Rattle.line.specs.Events.{after-event}
+use Rattle.line.specs.Points.{new-point, point-at, asking, point-record, has-service, stretch-within, allowed}
 use Rattle.line.specs.Refusals.{settled}
-use Rattle.line.specs.Services.{new-service, service-at}
+use Rattle.line.specs.Services.{share-of, new-service, service-at, record-share, shares-of}
 use Rattle.line.specs.Sound.{Sound}
-use Rattle.line.proofs.Shares.{shares-more}
-use Rattle.line.proofs.Soundness.{Admitted, admitted, Joined, joined}
-use Rattle.line.proofs.Tables.{none-there, at-new, at-other, there-inside}
+use Rattle.line.specs.Turns.{turn-of, next-turn}
+use Rattle.line.proofs.Fitting.{allowance}
+use Rattle.line.proofs.Happened.{keeps-plan, plan-decides}
+use Rattle.line.proofs.Heads.{head-same}
+use Rattle.line.proofs.Named.{turns-same, heads-same}
+use Rattle.line.proofs.Read.{service-read, service-tells, point-tells}
+use Rattle.line.proofs.Requested.{service-inside, event-there, at-request}
+use Rattle.line.proofs.Shares.{shares-more, shares-kept}
+use Rattle.line.proofs.Soundness.{Admitted, admitted, Joined, joined, enrolled-jobs}
+use Rattle.line.proofs.Tables.{none-there, at-new, at-other, nowhere-changed, there-inside}
 
 -- a verdict that is done
 done-is : (v : Result (Unit {0}) Refusal) → isOk v ≡ true → v ≡ Ok tt
@@ -45,10 +55,11 @@ reserved-told line number budget period most sound ok =
     let new = new-service budget period most (line .clock) in
     let after = reserved line number budget period most in
     record {
-      told = cond-false (leb service-places number) _ _ (ok .inside) ∙ ap (λ found. okOr found ServiceUnknown) (at-new (line .services .records) number new (omega arith));
+      told = service-tells after number new inside (at-new (line .services .records) number new (omega arith));
       others = λ k other. service-told line after k (at-other (line .services .records) number new k other);
       points = λ p. refl;
       shares = shares-more (line .services) number new (sound .services) inside (none-there _ (ok .free));
+      who = ap (who-of (line .points)) (turns-same (line .services) (after .services) (nowhere-changed turn-of (line .services .records) number new (omega arith) (sym (ap (turn-of number) (none-there _ (ok .free))))));
       clock = refl;
       unused = refl;
     }
@@ -65,10 +76,11 @@ enrolled-told line point service threshold sound ok =
     let new = new-point service threshold in
     let after = enrolled line point service threshold in
     record {
-      told = cond-false (leb point-places point) _ _ (ok .inside) ∙ ap (λ found. okOr (mapped point-record found) PointUnknown) (at-new (line .points .records) point new (omega arith));
+      told = point-tells after point new inside (at-new (line .points .records) point new (omega arith));
       others = λ k other. point-told line after k (at-other (line .points .records) point new k other);
       services = λ k. refl;
       shares = refl;
+      who = heads-same (line .points) (after .points) (λ k. head-same (line .points) (after .points) k (enrolled-jobs (line .points) point service threshold (omega arith) (none-there _ (ok .free)) k)) (next-turn (line .services));
       clock = refl;
       unused = refl;
     }
@@ -78,6 +90,36 @@ enrol-told line point service threshold sound good =
     let done = done-is (enrol-answer line point service) good in
     let law = enrolled-told line point service threshold sound (joined line point service done) in
     subst (λ v. Enrols line (settled v (enrolled line point service threshold) line) point service threshold) (sym done) law
+
+requested-told : (line : Schedule) (number : ℕ) → Sound line → (point : Point) (service : Service) → number < point-places → point-at (line .points) number ≡ Some point → point .job ≡ None → service-at (line .services) (point .service) ≡ Some service → Requests line (requested line number (Some point)) number
+requested-told line number sound point service inside found quiet served-by =
+    let there = service-inside line number point sound found in
+    let new-point = asking point (line .requests) in
+    let new-service = after-event service (Request (point .stretch)) (line .clock) in
+    let services-after = event-there line sound number point service inside found quiet served-by in
+    let after = requested line number (Some point) in
+    let size = sound .services in
+    let size-points = sound .points in
+    record {
+      point = point-record point;
+      asked = point-tells line number point inside found;
+      idle = ap isSome quiet;
+      told = point-tells after number new-point inside (at-new (line .points .records) number new-point (omega (arith, inside, size-points)));
+      others = λ k other. point-told line after k (at-other (line .points .records) number new-point k other);
+      service = service;
+      served-by = service-tells line (point .service) service (omega (arith, there, size)) served-by;
+      moved = service-tells after (point .service) new-service (omega (arith, there, size)) (ap (λ services. service-at services (point .service)) services-after ∙ at-new (line .services .records) (point .service) new-service there);
+      other-services = λ k other. service-told line after k (ap (λ services. service-at services k) services-after ∙ at-other (line .services .records) (point .service) new-service k other);
+      shares = ap shares-of services-after ∙ shares-kept (line .services) (point .service) new-service there (plan-decides (keeps-plan service (Request (point .stretch)) (line .clock)) (λ b p m. share-of b p) ∙ sym (ap record-share served-by));
+      clock = refl;
+      unused = refl;
+    }
+
+pub request-told : (line : Schedule) (number : ℕ) → Sound line → isOk (request-answer line number) ≡ true → Requests line (after-request line number) number
+request-told line number sound good =
+    let done = done-is (request-answer line number) good in
+    let law = at-request (λ after. Requests line after number) line number sound (requested-told line number sound) done in
+    subst (λ v. Requests line (settled v (requested line number (point-at (line .points) number)) line) number) (sym done) law
 
 -- ---- a point's service
 
@@ -97,3 +139,11 @@ point-belongs line number sound = go (leb point-places number) (point-at (line .
     go true held there = tt
     go false None there = tt
     go false (Some point) there = found-service line (point .service) sound there
+
+pub point-stretched : (line : Schedule) (number : ℕ) → Sound line → Stretched line (point-answer line number)
+point-stretched line number sound = go (leb point-places number) (point-at (line .points) number) (sound .stretches number)
+  where
+    go : (b : Bool) (held : Option Point) → allowed (line .services) held ≡ true → Stretched line (cond b (Err NoSuchPoint) (okOr (mapped point-record held) PointUnknown))
+    go true held is = tt
+    go false None is = tt
+    go false (Some point) is = λ service told. allowance (point .stretch) service (subst (λ held. stretch-within (point .stretch) held ≡ true) (service-read line (point .service) service told .1) is)

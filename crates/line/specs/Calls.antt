@@ -5,17 +5,27 @@ use Prim.Native.Nat.{ℕ, _+_}
 use lib.Dec.{leb, ltb}
 use lib.IntN.{ℤ}
 use Rattle.std.specs.Options.{isSome, okOr, mapped}
+use Rattle.std.specs.declared.option.Option.{Option}
+use Rattle.std.specs.declared.option.Option.the-variants.{Some, None}
 use Rattle.std.specs.declared.result.Result.{Result}
 use Rattle.std.specs.declared.result.Result.the-variants.{Err}
+use Rattle.line.specs.declared.events.Event.the-variants.{Request}
+use Rattle.line.specs.declared.jobs.Job.{Job}
+use Rattle.line.specs.declared.points.Point.{Point}
 use Rattle.line.specs.declared.points.PointRecord.{PointRecord}
+use Rattle.line.specs.declared.points.Points.{Points}
 use Rattle.line.specs.declared.refusals.Refusal.{Refusal}
-use Rattle.line.specs.declared.refusals.Refusal.the-variants.{NoSuchService, NoSuchPoint, ServiceTaken, BadPeriod, BadBudget, BadStretch, LineFull, ServiceUnknown, PointTaken, PointUnknown}
+use Rattle.line.specs.declared.refusals.Refusal.the-variants.{NoSuchService, NoSuchPoint, ServiceTaken, BadPeriod, BadBudget, BadStretch, LineFull, ServiceUnknown, PointTaken, PointUnknown, StillWaiting}
 use Rattle.line.specs.declared.schedule.Schedule.{Schedule}
 use Rattle.line.specs.declared.services.Service.{Service}
+use Rattle.line.specs.declared.turns.Turn.{Turn}
 use Rattle.line.specs.Bounds.{full-share, service-places, point-places}
-use Rattle.line.specs.Points.{new-point, no-points, point-at, with-point, point-record}
+use Rattle.line.specs.Events.{with-event}
+use Rattle.line.specs.Jobs.{head-of}
+use Rattle.line.specs.Points.{new-point, no-points, point-at, with-point, waits, asking, point-record}
 use Rattle.line.specs.Refusals.{Row, row, verdict, settled}
 use Rattle.line.specs.Services.{bad-period, bad-budget, bad-stretch, share-of, new-service, no-services, service-at, with-service, shares-of}
+use Rattle.line.specs.Turns.{next-turn}
 
 -- ---- a fresh line
 
@@ -77,6 +87,46 @@ enrolled line point service threshold = record {
 abbrev pub after-enrol : Schedule → ℕ → ℕ → ℤ → Schedule
 after-enrol line point service threshold =
     settled (enrol-answer line point service) (enrolled line point service threshold) line
+
+-- ---- request
+
+abbrev pub request-rows : Schedule → ℕ → List Row
+request-rows line point =
+    row NoSuchPoint (leb point-places point) ∷
+    row PointUnknown (not (isSome (point-at (line .points) point))) ∷
+    row StillWaiting (waits (point-at (line .points) point)) ∷
+    []
+
+abbrev pub request-answer : Schedule → ℕ → Result (Unit {0}) Refusal
+request-answer line point = verdict (request-rows line point)
+
+-- the line with one job more, and its service as that leaves it
+abbrev pub requested : Schedule → ℕ → Option Point → Schedule
+requested line number None = line
+requested line number (Some point) = record {
+  clock = line .clock;
+  unused = line .unused;
+  requests = line .requests + 1;
+  services = with-event (line .services) (point .service) (Request (point .stretch)) (line .clock);
+  points = with-point (line .points) number (asking point (line .requests));
+}
+
+abbrev pub after-request : Schedule → ℕ → Schedule
+after-request line point = settled (request-answer line point) (requested line point (point-at (line .points) point)) line
+
+-- ---- who
+
+-- a service, and the point of its head
+abbrev pub with-head : ℕ → Option Job → Option (ℕ × ℕ)
+with-head service None = None
+with-head service (Some head) = Some (service, head .point)
+
+abbrev pub who-of : Points → Option Turn → Option (ℕ × ℕ)
+who-of points None = None
+who-of points (Some turn) = with-head (turn .number) (head-of points (turn .number))
+
+abbrev pub who-answer : Schedule → Option (ℕ × ℕ)
+who-answer line = who-of (line .points) (next-turn (line .services))
 
 -- ---- the questions
 

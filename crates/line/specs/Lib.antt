@@ -1,9 +1,12 @@
 pub mod Borders
 pub mod Bounds
 pub mod Calls
+pub mod Events
+pub mod Jobs
 pub mod Laws
 pub mod Points
 pub mod Refusals
 pub mod Services
 pub mod Sound
 pub mod Sums
+pub mod Turns

@@ -1,6 +1,7 @@
 -- Points: one meter each, enrolled with a service, and the table of 256. Assumes nothing.
-use mathlib.Core.Bool.{Bool, true}
+use mathlib.Core.Bool.{Bool, true, false, _&&_}
 use Prim.Native.Nat.{ℕ}
+use lib.Dec.{leb}
 use lib.IntN.{ℤ}
 use lib.ListN.{getD, set, replicate}
 use Rattle.std.specs.Options.{isSome}
@@ -9,6 +10,7 @@ use Rattle.std.specs.declared.option.Option.the-variants.{Some, None}
 use Rattle.line.specs.declared.points.Point.{Point}
 use Rattle.line.specs.declared.points.PointRecord.{PointRecord}
 use Rattle.line.specs.declared.points.Points.{Points}
+use Rattle.line.specs.declared.services.Service.{Service}
 use Rattle.line.specs.declared.services.Services.{Services}
 use Rattle.line.specs.Bounds.{point-places}
 use Rattle.line.specs.Services.{service-at}
@@ -36,6 +38,30 @@ with-point points number point = record { records = set (points .records) number
 abbrev pub has-service : Services → Option Point → Bool
 has-service services None = true
 has-service services (Some point) = isSome (service-at services (point .service))
+
+-- the stretch of its next job is one that its service allows
+abbrev pub stretch-within : ℕ → Option Service → Bool
+stretch-within stretch None = true
+stretch-within stretch (Some service) = leb 1 stretch && leb stretch (service .«max_stretch»)
+
+abbrev pub allowed : Services → Option Point → Bool
+allowed services None = true
+allowed services (Some point) = stretch-within (point .stretch) (service-at services (point .service))
+
+-- what a record holds has a job waiting
+abbrev pub waits : Option Point → Bool
+waits None = false
+waits (Some point) = isSome (point .job)
+
+-- a point whose job is the one of this place in the order of requests
+abbrev pub asking : Point → ℕ → Point
+asking point order = record {
+  service = point .service;
+  threshold = point .threshold;
+  result = point .result;
+  stretch = point .stretch;
+  job = Some order;
+}
 
 -- what the question tells of a point
 abbrev pub point-record : Point → PointRecord

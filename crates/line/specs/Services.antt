@@ -1,9 +1,9 @@
 -- Services: a reservation of so many slots in every period, its share of the line, and the table of 32. Assumes nothing.
-use mathlib.Core.Bool.{Bool, true, not, _&&_, _||_}
+use mathlib.Core.Bool.{Bool, true, false, not, _&&_, _||_}
 use mathlib.Core.List.{List, _++_}
-use Prim.Native.Nat.{ℕ, _*_, _/_, _%_}
+use Prim.Native.Nat.{ℕ, _+_, _*_, _/_, _%_}
 use lib.Chars.{codes}
-use lib.Dec.{eqb, ltb}
+use lib.Dec.{eqb, leb, ltb}
 use lib.ListN.{getD, set, replicate}
 use Rattle.std.specs.Written.{decimal}
 use Rattle.std.specs.declared.option.Option.{Option}
@@ -67,6 +67,29 @@ shares-of services = sum-below (share-at services) service-places
 abbrev pub fit : Option Service → Bool
 fit None = true
 fit (Some service) = not (bad-period (service .period)) && (not (bad-budget (service .budget) (service .period)) && not (bad-stretch (service .«max_stretch»)))
+
+-- no job waits for what a record holds
+abbrev pub empty-state : State → Bool
+empty-state Empty = true
+empty-state Active = false
+empty-state (ShortWait wake) = false
+empty-state (LongWait wake) = false
+
+abbrev pub idle : Option Service → Bool
+idle None = true
+idle (Some service) = empty-state (service .state)
+
+-- a service is active with something left of its budget, and waits with nothing
+abbrev pub left-in : State → ℕ → Bool
+left-in Empty remaining = true
+left-in Active remaining = ltb 0 remaining
+left-in (ShortWait wake) remaining = eqb remaining 0
+left-in (LongWait wake) remaining = eqb remaining 0
+
+-- what a record holds has no more than its budget left, as its state says, and is due within its largest stretch
+abbrev pub steady : ℕ → Option Service → Bool
+steady clock None = true
+steady clock (Some service) = leb (service .remaining) (service .budget) && (left-in (service .state) (service .remaining) && leb (service .deadline) (clock + service .«max_stretch» * service .period))
 
 -- a state as it is printed
 abbrev pub state-words : State → List ℕ

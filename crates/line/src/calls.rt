@@ -4,9 +4,9 @@ ghost use mathlib.Core.Bool.{true, false};
 ghost use Prim.Native.Nat.{_≤_};
 ghost use Rattle.std.specs.Results.{isOk, errPart};
 ghost use Rattle.line.specs.Borders.{Borders};
-ghost use Rattle.line.specs.Bounds.{full-share};
-ghost use Rattle.line.specs.Calls.{fresh, reserve-answer, after-reserve, enrol-answer, after-enrol, service-answer, point-answer, reserve-rows, enrol-rows, service-rows, point-rows};
-ghost use Rattle.line.specs.Laws.{Reserves, Enrols, Belongs};
+ghost use Rattle.line.specs.Bounds.{full-share, clock-end};
+ghost use Rattle.line.specs.Calls.{fresh, reserve-answer, after-reserve, enrol-answer, after-enrol, request-answer, after-request, who-answer, service-answer, point-answer, reserve-rows, enrol-rows, request-rows, service-rows, point-rows};
+ghost use Rattle.line.specs.Laws.{Reserves, Enrols, Requests, Named, Stands, Belongs, Stretched};
 ghost use Rattle.line.specs.Refusals.{Smallest};
 ghost use Rattle.line.specs.Services.{shares-of};
 use crate::lines::Line;
@@ -59,10 +59,32 @@ impl<J: Judge> Line<J> {
         self.schedule.enrol(point, service, threshold)
     }
 
+    /// Adds a job of this point to those waiting, with the stretch that the point has now.
+    pub fn request(&mut self, point: u32) -> Result<(), Refusal>
+        ensures answer { λ r. ⌜ r ≡ request-answer (now (self .entry) .schedule) point ⌝ }
+        ensures after { λ _. ⌜ now (self .exit) .schedule ≡ after-request (now (self .entry) .schedule) point ⌝ }
+        ensures judge { λ _. ⌜ now (self .exit) .judge ≡ now (self .entry) .judge ⌝ }
+        ensures refused { λ r. ⌜ (isOk r ≡ false → now (self .exit) .schedule ≡ now (self .entry) .schedule) ⌝ }
+        ensures told { λ r. ⌜ (isOk r ≡ true → Requests (now (self .entry) .schedule) (now (self .exit) .schedule) point) ⌝ }
+        ensures smallest { λ r. ⌜ Smallest (request-rows (now (self .entry) .schedule) point) (errPart r) ⌝ }
+    {
+        self.schedule.request(point)
+    }
+
+    /// The service and the point that the next slot runs, or nobody.
+    pub fn who(&self) -> Option<(u32, u32)>
+        ensures answer { λ r. ⌜ r ≡ who-answer (now (self .entry) .schedule) ⌝ }
+        ensures same { λ _. ⌜ now (self .exit) ≡ now (self .entry) ⌝ }
+        ensures first { λ r. ⌜ Named (now (self .entry) .schedule) r ⌝ }
+    {
+        self.schedule.who()
+    }
+
     /// The record of a service.
     pub fn service(&self, number: u32) -> Result<Service, Refusal>
         ensures answer { λ r. ⌜ r ≡ service-answer (now (self .entry) .schedule) number ⌝ }
         ensures same { λ _. ⌜ now (self .exit) ≡ now (self .entry) ⌝ }
+        ensures stands { λ r. ⌜ Stands (now (self .entry) .schedule) number r ⌝ }
         ensures smallest { λ r. ⌜ Smallest (service-rows (now (self .entry) .schedule) number) (errPart r) ⌝ }
     {
         self.schedule.service(number)
@@ -73,6 +95,7 @@ impl<J: Judge> Line<J> {
         ensures answer { λ r. ⌜ r ≡ point-answer (now (self .entry) .schedule) number ⌝ }
         ensures same { λ _. ⌜ now (self .exit) ≡ now (self .entry) ⌝ }
         ensures belongs { λ r. ⌜ Belongs (now (self .entry) .schedule) r ⌝ }
+        ensures stretched { λ r. ⌜ Stretched (now (self .entry) .schedule) r ⌝ }
         ensures smallest { λ r. ⌜ Smallest (point-rows (now (self .entry) .schedule) number) (errPart r) ⌝ }
     {
         self.schedule.point(number)
@@ -82,6 +105,7 @@ impl<J: Judge> Line<J> {
     pub fn clock(&self) -> u64
         ensures answer { λ r. ⌜ r ≡ now (self .entry) .schedule .clock ⌝ }
         ensures same { λ _. ⌜ now (self .exit) ≡ now (self .entry) ⌝ }
+        ensures bound { λ r. ⌜ r ≤ clock-end ⌝ }
     {
         self.schedule.clock
     }

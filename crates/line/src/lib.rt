@@ -1,11 +1,18 @@
 //! The shared line of a block's meters.
-//! `Line` takes reservations of services and enrolments of points, refuses what does not fit, and answers questions.
+//! `Line` takes reservations of services, enrolments of points and requests of jobs, refuses what does not fit, names whom the next
+//! slot runs, and answers questions.
 mod calls;
+mod events;
+#[cfg(test)]
+mod examples;
+mod jobs;
 mod lines;
+mod places;
 mod points;
 mod refusals;
 mod schedule;
 mod services;
+mod turns;
 
 pub use lines::Line;
 pub use points::POINTS;

@@ -1,6 +1,6 @@
 //! Points: one meter each, enrolled with a service.
 ghost use mathlib.Core.Path.{_≡_};
-ghost use Rattle.line.specs.Points.{new-point, no-points, point-record};
+ghost use Rattle.line.specs.Points.{new-point, no-points, asking as with-job, point-record};
 
 /// Points are numbered 0 to 255.
 pub const POINTS: usize = 256;
@@ -44,6 +44,19 @@ impl Point {
             result: None,
             stretch: 1,
             job: None,
+        }
+    }
+
+    // The point with its job in this place in the order of requests.
+    pub(crate) fn asking(self, order: u64) -> Point
+        ensures { λ r. ⌜ r ≡ with-job self order ⌝ }
+    {
+        Point {
+            service: self.service,
+            threshold: self.threshold,
+            result: self.result,
+            stretch: self.stretch,
+            job: Some(order),
         }
     }
 

@@ -1,7 +1,10 @@
 //! All that a line keeps but its judge. The line around it holds the facts that every call keeps.
 ghost use mathlib.Core.Path.{_≡_};
-ghost use Rattle.line.specs.Calls.{fresh, reserve-answer, after-reserve, enrol-answer, after-enrol, service-answer, point-answer};
+ghost use Rattle.line.specs.Calls.{fresh, reserve-answer, after-reserve, enrol-answer, after-enrol, request-answer, after-request, who-answer, service-answer, point-answer};
 ghost use Rattle.line.specs.Sound.{Sound};
+use crate::events::Event;
+use crate::jobs::Jobs;
+use crate::jobs::ServiceJobs;
 use crate::points::POINTS;
 use crate::points::Point;
 use crate::points::PointRecord;
@@ -13,6 +16,8 @@ use crate::services::STRETCH_LIMIT;
 use crate::services::Service;
 use crate::services::Services;
 use crate::services::share;
+use crate::turns::ActiveServices;
+use urgency::most_urgent;
 
 #[derive(Drop)]
 pub(crate) struct Schedule {
@@ -119,6 +124,38 @@ impl Schedule {
         self.may_enrol(point, service)?;
         self.points.records[point as usize] = Some(Point::new(service, threshold));
         Ok(())
+    }
+
+    pub(crate) fn request(&mut self, number: u32) -> Result<(), Refusal>
+        requires { ⌜ Sound (now self) ⌝ }
+        ensures answer { λ r. ⌜ r ≡ request-answer (now (self .entry)) number ⌝ }
+        ensures after { λ _. ⌜ now (self .exit) ≡ after-request (now (self .entry)) number ⌝ }
+    {
+        if number as usize >= POINTS {
+            return Err(Refusal::NoSuchPoint);
+        }
+        let found = self.points.records[number as usize];
+        let point = found.ok_or(Refusal::PointUnknown)?;
+        if point.job.is_some() {
+            return Err(Refusal::StillWaiting);
+        }
+        self.points.records[number as usize] = Some(point.asking(self.requests));
+        self.requests += 1;
+        self.services
+            .on(point.service, Event::Request(point.stretch), self.clock);
+        Ok(())
+    }
+
+    pub(crate) fn who(&self) -> Option<(u32, u32)>
+        ensures { λ r. ⌜ r ≡ who-answer (now (self .entry)) ⌝ }
+    {
+        let turn = most_urgent(&self.services, SERVICES as u32)?;
+        let jobs = Jobs {
+            points: &self.points,
+            service: turn.number,
+        };
+        let head = most_urgent(&jobs, POINTS as u32)?;
+        Some((turn.number, head.point))
     }
 
     pub(crate) fn service(&self, number: u32) -> Result<Service, Refusal>

@@ -1,8 +1,8 @@
 use mathlib.Core.Path.{sym, subst}
 use borrow.Author.Needs.{needs}
-use Rattle.line.specs.Laws.{Belongs}
+use Rattle.line.specs.Laws.{Belongs, Stretched}
 use Rattle.line.proofs.Kept.{kept}
-use Rattle.line.proofs.Told.{point-belongs}
+use Rattle.line.proofs.Told.{point-belongs, point-stretched}
 use Rattle.line.proofs.lines.Line.point.Needs as need
 
 pub returns : need.returns
@@ -12,5 +12,6 @@ returns g c =
       answer = search needs;
       same = search needs;
       belongs = subst (Belongs (line .schedule)) (sym (c .point .ensures)) (point-belongs (line .schedule) (c .args .number) (kept line));
+      stretched = subst (Stretched (line .schedule)) (sym (c .point .ensures)) (point-stretched (line .schedule) (c .args .number) (kept line));
       smallest = search needs;
     }
