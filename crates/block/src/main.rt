@@ -1,5 +1,7 @@
 //! Plays one housing block: admits its plan to the line, requests jobs of every service, and prints each call with its outcome
 //! and whom the next slot would run, then why, the sum of shares and every record.
+#![tactic(auto)]
+
 mod calls;
 mod outcomes;
 mod plan;

@@ -1,4 +1,5 @@
 //! Tests of the judges, the search for the most urgent and the line at their borders, through public calls alone.
+#![tactic(auto)]
 
 #[cfg(test)]
 mod judges;

@@ -1,5 +1,5 @@
 //! A third kind of item and of table, made outside: the search serves any that keep the laws.
-ghost use Rattle.std.specs.Prelude.{if_then_else_, None as nothing, nat_eq, nat_lt};
+ghost use Rattle.std.specs.Prelude.{if◌then◌else◌, None as nothing, nat_eq, nat_lt};
 ghost use Rattle.std.proofs.Common.{rules};
 
 use urgency::{Candidates, Urgent, most_urgent};

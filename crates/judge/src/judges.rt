@@ -34,8 +34,8 @@ impl Judge for Threshold {
 
     ghost range = { Prim.search rules };
 
-    fn stretch(&self, res: i32, _before: Option<i32>, threshold: i32, max_stretch: u32) -> u32 {
-        if res >= threshold { 1 } else { max_stretch }
+    fn stretch(&self, latest: i32, _before: Option<i32>, threshold: i32, max_stretch: u32) -> u32 {
+        if latest >= threshold { 1 } else { max_stretch }
     }
 }
 
@@ -48,12 +48,12 @@ impl Judge for Slope {
 
     ghost range = { Prim.search rules };
 
-    fn stretch(&self, res: i32, before: Option<i32>, threshold: i32, max_stretch: u32) -> u32 {
+    fn stretch(&self, latest: i32, before: Option<i32>, threshold: i32, max_stretch: u32) -> u32 {
         let Some(earlier) = before else {
             return 1;
         };
         // The distance of two results may pass the signed range.
-        let moved = res.abs_diff(earlier) as i64;
+        let moved = latest.abs_diff(earlier) as i64;
         let least = threshold as i64;
         if moved >= least { 1 } else { max_stretch }
     }
@@ -79,12 +79,12 @@ impl Judge for Graded {
 
     ghost range = { Prim.search rules };
 
-    fn stretch(&self, res: i32, _before: Option<i32>, threshold: i32, max_stretch: u32) -> u32 {
-        if res >= threshold {
+    fn stretch(&self, latest: i32, _before: Option<i32>, threshold: i32, max_stretch: u32) -> u32 {
+        if latest >= threshold {
             return 1;
         }
         let width = self.width.max(1);
-        let short = threshold.abs_diff(res);
+        let short = threshold.abs_diff(latest);
         let grade = 2 + (short as u64 - 1) / width as u64;
         grade.min(max_stretch as u64) as u32
     }

@@ -1,5 +1,7 @@
 //! Judges: each says from a meter's latest result how far its next job may be stretched.
 //! A stretch of 1 marks an important job; a larger one lets the job's service wait that many periods.
+#![tactic(auto)]
+
 ghost use Rattle.std.specs.Prelude.{◌≡◌};
 ghost use Rattle.judge.specs.Meanings.{Meaning, InRange};
 
@@ -13,8 +15,8 @@ pub trait Judge {
     ghost meaning: { Self → Meaning };
 
     /// The stretch of the next job of a point with this threshold, after `result` and, unless it was the first, the result `before` it.
-    fn stretch(&self, res: i32, before: Option<i32>, threshold: i32, max_stretch: u32) -> u32
-        ensures value { result ≡ meaning self.now res before threshold max_stretch }
+    fn stretch(&self, latest: i32, before: Option<i32>, threshold: i32, max_stretch: u32) -> u32
+        ensures value { result ≡ meaning self.now latest before threshold max_stretch }
         ensures kept { self.now ≡ self.now };
 
     // Its value lies in 1..=max_stretch, for every largest stretch from 1 to 16.

@@ -8,7 +8,6 @@ use Rattle.line.specs.declared.services.State.TheVariants.{Empty, Active, ShortW
 use Rattle.line.specs.Events.{after_event}
 use Rattle.line.specs.Services.{new_service, fit, empty_state}
 use Rattle.line.specs.Slots.{ran, woken}
-use Rattle.line.proofs.Fitting.{Fitting, Steady}
 
 -- the stretch of a head is one that its service allows
 abbrev pub Allows : Service → Option Job → Type 0

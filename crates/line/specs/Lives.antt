@@ -1,5 +1,5 @@
 -- Lives: one line with one judge, started fresh, and one call after another. Assumes nothing.
-use Rattle.std.specs.Prelude.{◌≡◌, ℕ, ◌+◌, cond, List, [], ◌∷◌, ℤ, Some, None, Ok, Err, Option, Result, ◌==◌}
+use Rattle.std.specs.Prelude.{ℕ, ◌+◌, cond, List, [], ◌∷◌, ℤ, Some, None, Ok, Err, Option, Result, ◌==◌}
 use Rattle.judge.specs.Meanings.{Meaning}
 use Rattle.line.specs.declared.outcomes.Outcome.{Outcome}
 use Rattle.line.specs.declared.refusals.Refusal.{Refusal}

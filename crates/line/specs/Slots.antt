@@ -1,5 +1,5 @@
 -- A slot: the job that runs, what it leaves of its point and its service, and the services that wake. Assumes nothing.
-use Rattle.std.specs.Prelude.{◌≡◌, ℕ, zero, suc, ◌+◌, ◌-◌, ◌<◌, Bool, true, false, cond, not, ◌&&◌, List, [], ◌∷◌, ℤ, is_some, Some, None, Ok, Err, Option, Result, ◌==◌, nat_le, slice_set}
+use Rattle.std.specs.Prelude.{ℕ, zero, suc, ◌+◌, ◌-◌, ◌<◌, Bool, true, false, cond, not, ◌&&◌, List, [], ◌∷◌, ℤ, is_some, Some, None, Ok, Err, Option, Result, ◌==◌, nat_le, slice_set}
 use Rattle.std.specs.Option.{option_map}
 use Rattle.judge.specs.Meanings.{Meaning}
 use Rattle.line.specs.declared.events.Event.TheVariants.{Exhaustion, WakeUp}

@@ -1,6 +1,8 @@
 //! The shared line of a block's meters.
 //! `Line` takes reservations of services, enrolments of points and requests of jobs, refuses what does not fit, names whom the next
 //! slot runs, and answers questions.
+#![tactic(auto)]
+
 mod calls;
 mod events;
 #[cfg(test)]

@@ -1,4 +1,6 @@
 //! Which of some candidates comes first: one text for every kind of item that has an order.
+#![tactic(auto)]
+
 ghost use Rattle.std.specs.Prelude.{◌≡◌, ℕ, Bool, Option};
 ghost use Rattle.urgency.specs.Urgency.{Connected, Asymmetric, Transitive, sooner, most_urgent, First};
 

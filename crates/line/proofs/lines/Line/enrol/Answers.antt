@@ -7,12 +7,13 @@ use Rattle.line.proofs.Soundness.{enrol_sound}
 use Rattle.line.proofs.Told.{enrol_told}
 use Rattle.line.proofs.lines.Line.enrol.Goals as goal
 
-pub invariant-of-self : goal.invariant-of-self
-invariant-of-self g c =
+pub invariant_of-self : goal.invariant_of-self
+invariant_of-self g c =
     let a = c.args in
     let before = a.self.now in
     let after_is : c.enrol.new.self ≡ after_enrol before.schedule a.point a.service a.threshold = search rules in
-    owed c.enrol.new.self (after_enrol before.schedule a.point a.service a.threshold) after_is (enrol_sound before.schedule a.point a.service a.threshold (kept before))
+    let sound = owed c.enrol.new.self (after_enrol before.schedule a.point a.service a.threshold) after_is (enrol_sound before.schedule a.point a.service a.threshold (kept before)) in
+    assumption sound
 
 pub returns : goal.returns
 returns g c =

@@ -5,8 +5,8 @@ use Rattle.line.proofs.Kept.{owed}
 use Rattle.line.proofs.Soundness.{fresh_sound}
 use Rattle.line.proofs.lines.Line.new.Goals as goal
 
-pub invariant-of-result : goal.invariant-of-result
-invariant-of-result g c = owed c.new.result fresh c.new.ensures fresh_sound
+pub invariant_of-result : goal.invariant_of-result
+invariant_of-result g c = let sound = owed c.new.result fresh c.new.ensures fresh_sound in assumption sound
 
 pub returns : goal.returns
 returns g c = record { after = search rules; judge = search rules; borders = borders }

@@ -8,10 +8,11 @@ use Rattle.line.proofs.Requested.{request_sound}
 use Rattle.line.proofs.Told.{request_told}
 use Rattle.line.proofs.lines.Line.request.Goals as goal
 
-pub invariant-of-self : goal.invariant-of-self
-invariant-of-self g c =
+pub invariant_of-self : goal.invariant_of-self
+invariant_of-self g c =
     let before = c.args.self.now in
-    owed c.request.new.self (after_request before.schedule c.args.point) c.request.ensures.after (request_sound before.schedule c.args.point (kept before))
+    let sound = owed c.request.new.self (after_request before.schedule c.args.point) c.request.ensures.after (request_sound before.schedule c.args.point (kept before)) in
+    assumption sound
 
 pub returns : goal.returns
 returns g c =

@@ -7,11 +7,12 @@ use Rattle.line.proofs.Soundness.{reserve_sound}
 use Rattle.line.proofs.Told.{reserve_told}
 use Rattle.line.proofs.lines.Line.reserve.Goals as goal
 
-pub invariant-of-self : goal.invariant-of-self
-invariant-of-self g c =
+pub invariant_of-self : goal.invariant_of-self
+invariant_of-self g c =
     let a = c.args in
     let before = a.self.now in
-    owed c.reserve.new.self (after_reserve before.schedule a.number a.budget a.period a.max_stretch) c.reserve.ensures.after (reserve_sound before.schedule a.number a.budget a.period a.max_stretch (kept before))
+    let sound = owed c.reserve.new.self (after_reserve before.schedule a.number a.budget a.period a.max_stretch) c.reserve.ensures.after (reserve_sound before.schedule a.number a.budget a.period a.max_stretch (kept before)) in
+    assumption sound
 
 pub returns : goal.returns
 returns g c =

@@ -9,5 +9,5 @@ loop-held-init c = (sym (sum_none (share_at c.args.self.now)), omega arith, omeg
 pub loop-held-preserved : goal.loop-held-preserved
 loop-held-preserved c =
     let more = sum_more (share_at c.args.self.now) c.loop-held.held-index in
-    let one = c.record_share_sum.ensures in
+    let one = c.record_share-sum.ensures in
     (omega arith, omega arith, omega arith)
