@@ -52,7 +52,7 @@ pub(crate) fn request<J: Judge>(rt: &HostRuntime, line: &mut Line<J>, point: u32
 }
 
 pub(crate) fn ask_who<J: Judge>(rt: &HostRuntime, line: &Line<J>) -> io::Result<()>
-    ensures { line.now ≡ line.now }
+    ensures { line.exit.now ≡ line.entry.now }
 {
     match line.who() {
         Some((service, point)) => println!(rt; "next slot: service {service}, point {point}"),
@@ -62,7 +62,7 @@ pub(crate) fn ask_who<J: Judge>(rt: &HostRuntime, line: &Line<J>) -> io::Result<
 
 // Why the next slot is this service's and this point's: the deadlines of all active services, and the service's waiting jobs.
 pub(crate) fn tell_why<J: Judge>(rt: &HostRuntime, line: &Line<J>) -> io::Result<()>
-    ensures { line.now ≡ line.now }
+    ensures { line.exit.now ≡ line.entry.now }
 {
     let Some((first, head)) = line.who() else {
         return println!(rt; "no service is active");
@@ -79,7 +79,7 @@ pub(crate) fn tell_why<J: Judge>(rt: &HostRuntime, line: &Line<J>) -> io::Result
 }
 
 fn tell_turn<J: Judge>(rt: &HostRuntime, line: &Line<J>, number: u32) -> io::Result<()>
-    ensures { line.now ≡ line.now }
+    ensures { line.exit.now ≡ line.entry.now }
 {
     match line.service(number) {
         Ok(
@@ -100,7 +100,7 @@ fn tell_turn<J: Judge>(rt: &HostRuntime, line: &Line<J>, number: u32) -> io::Res
 }
 
 fn tell_job<J: Judge>(rt: &HostRuntime, line: &Line<J>, of: u32, number: u32) -> io::Result<()>
-    ensures { line.now ≡ line.now }
+    ensures { line.exit.now ≡ line.entry.now }
 {
     match line.point(number) {
         Ok(
@@ -122,7 +122,7 @@ fn tell_job<J: Judge>(rt: &HostRuntime, line: &Line<J>, of: u32, number: u32) ->
 }
 
 pub(crate) fn ask_service<J: Judge>(rt: &HostRuntime, line: &Line<J>, number: u32) -> io::Result<()>
-    ensures { line.now ≡ line.now }
+    ensures { line.exit.now ≡ line.entry.now }
 {
     match line.service(number) {
         Ok(
@@ -148,7 +148,7 @@ pub(crate) fn ask_service<J: Judge>(rt: &HostRuntime, line: &Line<J>, number: u3
 }
 
 pub(crate) fn ask_point<J: Judge>(rt: &HostRuntime, line: &Line<J>, number: u32) -> io::Result<()>
-    ensures { line.now ≡ line.now }
+    ensures { line.exit.now ≡ line.entry.now }
 {
     match line.point(number) {
         Ok(

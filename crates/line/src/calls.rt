@@ -73,7 +73,7 @@ impl<J: Judge> Line<J> {
     /// The service and the point that the next slot runs, or nobody.
     pub fn who(&self) -> Option<(u32, u32)>
         ensures answer { result ≡ who_answer self.now.schedule }
-        ensures same { self.now ≡ self.now }
+        ensures same { self.exit.now ≡ self.entry.now }
         ensures first { Named self.now.schedule result }
     {
         self.schedule.who()
@@ -82,7 +82,7 @@ impl<J: Judge> Line<J> {
     /// The record of a service.
     pub fn service(&self, number: u32) -> Result<Service, Refusal>
         ensures answer { result ≡ service_answer self.now.schedule number }
-        ensures same { self.now ≡ self.now }
+        ensures same { self.exit.now ≡ self.entry.now }
         ensures stands { Stands self.now.schedule number result }
         ensures smallest { Smallest (service_rows self.now.schedule number) (result_err result) }
     {
@@ -92,7 +92,7 @@ impl<J: Judge> Line<J> {
     /// The record of a point.
     pub fn point(&self, number: u32) -> Result<PointRecord, Refusal>
         ensures answer { result ≡ point_answer self.now.schedule number }
-        ensures same { self.now ≡ self.now }
+        ensures same { self.exit.now ≡ self.entry.now }
         ensures belongs { Belongs self.now.schedule result }
         ensures stretched { Stretched self.now.schedule result }
         ensures smallest { Smallest (point_rows self.now.schedule number) (result_err result) }
@@ -103,7 +103,7 @@ impl<J: Judge> Line<J> {
     /// The slots so far.
     pub fn clock(&self) -> u64
         ensures answer { result ≡ self.now.schedule.clock }
-        ensures same { self.now ≡ self.now }
+        ensures same { self.exit.now ≡ self.entry.now }
         ensures bound { result ≤ clock_end }
     {
         self.schedule.clock
@@ -112,7 +112,7 @@ impl<J: Judge> Line<J> {
     /// The slots in which no service ran.
     pub fn unused(&self) -> u64
         ensures answer { result ≡ self.now.schedule.unused }
-        ensures same { self.now ≡ self.now }
+        ensures same { self.exit.now ≡ self.entry.now }
     {
         self.schedule.unused
     }
@@ -120,7 +120,7 @@ impl<J: Judge> Line<J> {
     /// The sum of the shares of all services.
     pub fn shares(&self) -> u32
         ensures answer { result ≡ shares_of self.now.schedule.services }
-        ensures same { self.now ≡ self.now }
+        ensures same { self.exit.now ≡ self.entry.now }
         ensures bound { result ≤ full_share }
     {
         self.schedule.services.shares()

@@ -18,7 +18,6 @@ mod services;
 mod turns;
 
 pub use lines::Line;
-pub use outcomes::Outcome;
 pub use points::{POINTS, PointRecord};
 pub use refusals::Refusal;
 pub use services::{FULL_SHARE, SERVICES, STRETCH_LIMIT, Service, State};

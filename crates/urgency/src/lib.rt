@@ -12,8 +12,8 @@ pub trait Urgent: Copy {
     /// Whether this item comes before the other.
     fn is_before(&self, other: &Self) -> bool
         ensures value { result ≡ before self.now other.now }
-        ensures kept { self.now ≡ self.now }
-        ensures other { other.now ≡ other.now };
+        ensures kept { self.exit.now ≡ self.entry.now }
+        ensures other { other.exit.now ≡ other.entry.now };
 
     // Any two different items are told apart.
     ghost connected: { Connected before };
@@ -35,7 +35,7 @@ pub trait Candidates {
     /// The candidate at this place, if there is one.
     fn candidate(&self, place: u32) -> Option<Self::Item>
         ensures value { result ≡ at self.now place }
-        ensures kept { self.now ≡ self.now };
+        ensures kept { self.exit.now ≡ self.entry.now };
 }
 
 // The more urgent of two, where either may be missing.
@@ -56,7 +56,7 @@ fn more_urgent<T: Urgent>(best: Option<T>, next: Option<T>) -> Option<T>
 pub fn most_urgent<C: Candidates>(candidates: &C, places: u32) -> Option<C::Item>
     ensures value { result ≡ most_urgent C.Item.Urgent.before (C.Candidates.at candidates.now) places }
     ensures first { First C.Item.Urgent.before (C.Candidates.at candidates.now) places result }
-    ensures kept { candidates.now ≡ candidates.now }
+    ensures kept { candidates.exit.now ≡ candidates.entry.now }
 {
     let mut best = None;
     for place in 0..places {
