@@ -2,7 +2,7 @@
 """Brings this repository's own definitions, lemmas and locals of specs/, proofs/ and clauses to snake case, types to camel case.
 
 Run once at the top of the repository, after the toolchain's port script. Names of the standard library, names that the
-toolchain makes, source names, strings and comments keep their spelling, but for names of definitions in comments' backticks.
+toolchain makes, source names, strings and comments keep their spelling. In README.md and docs/ it turns what stands in backticks.
 """
 
 import os
