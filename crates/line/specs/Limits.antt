@@ -1,4 +1,5 @@
--- The limits on slots: what every life keeps, under every judge. Assumes nothing.
+-- The limits on slots, as one statement over every life and every judge. No slot runs yet, so no contract makes it and no proof shows it.
+-- Assumes nothing.
 use Rattle.std.specs.Prelude.{◌≡◌, ℕ, ◌+◌, ◌-◌, ◌*◌, ◌≤◌, false, List, is_ok, Ok}
 use Rattle.judge.specs.Meanings.{Meaning, InRange}
 use Rattle.line.specs.declared.services.Service.{Service}

@@ -1,4 +1,4 @@
--- A slot: the job that runs, what it leaves of its point and its service, and the services that wake. Assumes nothing.
+-- A slot: the job that runs, what it leaves of its point and its service, and the services that wake. No call runs one yet. Assumes nothing.
 use Rattle.std.specs.Prelude.{ℕ, zero, suc, ◌+◌, ◌-◌, ◌<◌, Bool, true, false, cond, not, ◌&&◌, List, [], ◌∷◌, ℤ, is_some, Some, None, Ok, Err, Option, Result, ◌==◌, nat_le, slice_set}
 use Rattle.std.specs.Option.{option_map}
 use Rattle.judge.specs.Meanings.{Meaning}

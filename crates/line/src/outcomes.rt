@@ -1,4 +1,4 @@
-//! What a slot is told of the job that it ran.
+//! What a slot is told of the job that it ran. The rule of a slot speaks of it; no call takes it yet.
 
 /// How the job of a slot stands at the slot's end.
 #[derive(Clone, Copy, PartialEq, Eq, Debug)]
