@@ -6,39 +6,25 @@ mod calls;
 mod outcomes;
 mod plan;
 
+use calls::Block;
 use judge::Threshold;
-use line::{FULL_SHARE, Line, POINTS, SERVICES};
 use plan::{ENROLMENTS, REQUESTS, RESERVATIONS, STRANGER};
 use std::io;
 
 fn main(rt: HostRuntime) -> io::Result<()> {
-    let mut line = Line::new(Threshold);
-    for reservation in RESERVATIONS {
-        calls::reserve(&rt, &mut line, reservation)?;
+    let mut block = Block::new(&rt, Threshold);
+    for (number, asked) in RESERVATIONS {
+        block.reserve(number, asked)?;
     }
-    for enrolment in ENROLMENTS {
-        calls::enrol(&rt, &mut line, enrolment)?;
+    for asked in ENROLMENTS {
+        block.enrol(asked)?;
     }
-    calls::ask_who(&rt, &line)?;
+    block.ask_who()?;
     for point in REQUESTS {
-        calls::request(&rt, &mut line, point)?;
-        calls::ask_who(&rt, &line)?;
+        block.request(point)?;
+        block.ask_who()?;
     }
-    calls::tell_why(&rt, &line)?;
-    let clock = line.clock();
-    let unused = line.unused();
-    let shares = line.shares();
-    let full = FULL_SHARE;
-    println!(rt; "clock {clock}, unused {unused}, shares {shares} of {full}")?;
-    for number in 0..SERVICES as u32 {
-        if line.service(number).is_ok() {
-            calls::ask_service(&rt, &line, number)?;
-        }
-    }
-    for number in 0..POINTS as u32 {
-        if line.point(number).is_ok() {
-            calls::ask_point(&rt, &line, number)?;
-        }
-    }
-    calls::ask_point(&rt, &line, STRANGER)
+    block.tell_why()?;
+    block.ask_all()?;
+    block.ask_point(STRANGER)
 }

@@ -1,37 +1,21 @@
 //! What became of a call, in words and number.
-ghost use Rattle.std.specs.Prelude.{◌≡◌, Some as Shown};
-ghost use Rattle.block.specs.Outcomes.{outcome_words, outcome_of};
+ghost use Rattle.std.specs.Prelude.{Some};
+ghost use Rattle.block.specs.Outcomes.{outcome_words};
 
 use line::Refusal;
 use std::fmt;
 
+// An answer as it is printed.
 #[derive(Clone, Copy)]
-pub(crate) enum Outcome {
-    Done,
-    Refused(Refusal),
-}
-
-impl Outcome {
-    pub(crate) fn new(answer: Result<(), Refusal>) -> Outcome
-        ensures { result ≡ outcome_of answer }
-    {
-        match answer {
-            Ok(()) => Outcome::Done,
-            Err(refusal) => Outcome::Refused(refusal),
-        }
-    }
-}
+pub(crate) struct Outcome(pub(crate) Result<(), Refusal>);
 
 impl fmt::Display for Outcome {
-    ghost output = { λ outcome. Shown (outcome_words outcome) };
+    ghost output = { λ outcome. Some (outcome_words outcome.0) };
 
     fn fmt<W: fmt::Write>(&self, f: &mut fmt::Formatter<W>) -> fmt::Result {
-        match *self {
-            Outcome::Done => write!(f, "done"),
-            Outcome::Refused(refusal) => {
-                let number = refusal.number();
-                write!(f, "refused {number}, {refusal}")
-            }
+        match self.0 {
+            Ok(()) => f.write_str("done"),
+            Err(refusal) => write!(f, "refused {}, {refusal}", refusal.number()),
         }
     }
 }

@@ -1,13 +1,7 @@
 //! The plan of the block: five services, and the meters of twelve flats with their boilers, alarms, tariff clock and heat.
 //! Then the requests at the quarter mark. Some calls are wrong, each in another way.
 
-#[derive(Clone, Copy)]
-pub(crate) struct Reservation {
-    pub(crate) number: u32,
-    pub(crate) budget: u32,
-    pub(crate) period: u32,
-    pub(crate) max_stretch: u32,
-}
+use line::Reservation;
 
 #[derive(Clone, Copy)]
 pub(crate) struct Enrolment {
@@ -16,77 +10,98 @@ pub(crate) struct Enrolment {
     pub(crate) threshold: i32,
 }
 
-pub(crate) const RESERVATIONS: [Reservation; 10] = [
+// Each with the number of its service.
+pub(crate) const RESERVATIONS: [(u32, Reservation); 10] = [
     // Quarter-hour reads of the flats' meters.
-    Reservation {
-        number: 0,
-        budget: 120,
-        period: 900,
-        max_stretch: 4,
-    },
+    (
+        0,
+        Reservation {
+            budget: 120,
+            period: 900,
+            max_stretch: 4,
+        },
+    ),
     // Relay commands to the boilers.
-    Reservation {
-        number: 1,
-        budget: 2,
-        period: 10,
-        max_stretch: 1,
-    },
+    (
+        1,
+        Reservation {
+            budget: 2,
+            period: 10,
+            max_stretch: 1,
+        },
+    ),
     // Alarm points in the cellar.
-    Reservation {
-        number: 2,
-        budget: 1,
-        period: 5,
-        max_stretch: 16,
-    },
+    (
+        2,
+        Reservation {
+            budget: 1,
+            period: 5,
+            max_stretch: 16,
+        },
+    ),
     // Tariff download.
-    Reservation {
-        number: 3,
-        budget: 300,
-        period: 3600,
-        max_stretch: 8,
-    },
+    (
+        3,
+        Reservation {
+            budget: 300,
+            period: 3600,
+            max_stretch: 8,
+        },
+    ),
     // Service 0 is taken.
-    Reservation {
-        number: 0,
-        budget: 60,
-        period: 900,
-        max_stretch: 4,
-    },
+    (
+        0,
+        Reservation {
+            budget: 60,
+            period: 900,
+            max_stretch: 4,
+        },
+    ),
     // 7 does not divide 3600.
-    Reservation {
-        number: 4,
-        budget: 1,
-        period: 7,
-        max_stretch: 1,
-    },
+    (
+        4,
+        Reservation {
+            budget: 1,
+            period: 7,
+            max_stretch: 1,
+        },
+    ),
     // 11 slots do not fit into 10.
-    Reservation {
-        number: 4,
-        budget: 11,
-        period: 10,
-        max_stretch: 1,
-    },
+    (
+        4,
+        Reservation {
+            budget: 11,
+            period: 10,
+            max_stretch: 1,
+        },
+    ),
     // No job is stretched 17 times.
-    Reservation {
-        number: 4,
-        budget: 1,
-        period: 10,
-        max_stretch: 17,
-    },
+    (
+        4,
+        Reservation {
+            budget: 1,
+            period: 10,
+            max_stretch: 17,
+        },
+    ),
     // Half of the line is more than is left.
-    Reservation {
-        number: 4,
-        budget: 1,
-        period: 2,
-        max_stretch: 1,
-    },
+    (
+        4,
+        Reservation {
+            budget: 1,
+            period: 2,
+            max_stretch: 1,
+        },
+    ),
     // Heat meters, with all that is left.
-    Reservation {
-        number: 4,
-        budget: 23,
-        period: 60,
-        max_stretch: 2,
-    },
+    (
+        4,
+        Reservation {
+            budget: 23,
+            period: 60,
+            max_stretch: 2,
+        },
+    ),
 ];
 
 pub(crate) const ENROLMENTS: [Enrolment; 24] = [

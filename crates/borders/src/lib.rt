@@ -6,6 +6,8 @@ mod judges;
 #[cfg(test)]
 mod lines;
 #[cfg(test)]
+mod plans;
+#[cfg(test)]
 mod requests;
 #[cfg(test)]
 mod steady;

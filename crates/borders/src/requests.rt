@@ -1,4 +1,5 @@
 //! Requests: what is refused, what a request changes, and whom the next slot runs.
+use crate::plans::plan;
 use judge::{Plain, Slope};
 use line::{Line, PointRecord, Refusal, Service, State};
 
@@ -8,7 +9,7 @@ fn a_request_is_refused(rt: HostRuntime) {
     assert_eq!(rt; line.request(256), Err(Refusal::NoSuchPoint));
     assert_eq!(rt; line.request(u32::MAX), Err(Refusal::NoSuchPoint));
     assert_eq!(rt; line.request(255), Err(Refusal::PointUnknown));
-    assert_eq!(rt; line.reserve(0, 1, 10, 1), Ok(()));
+    assert_eq!(rt; line.reserve(0, plan(1, 10, 1)), Ok(()));
     assert_eq!(rt; line.enrol(255, 0, 0), Ok(()));
     assert_eq!(rt; line.request(255), Ok(()));
     assert_eq!(rt; line.request(255), Err(Refusal::StillWaiting));
@@ -18,15 +19,13 @@ fn a_request_is_refused(rt: HostRuntime) {
 #[test]
 fn a_request_replenishes_a_new_service(rt: HostRuntime) {
     let mut line = Line::new(Slope);
-    assert_eq!(rt; line.reserve(31, 2, 10, 3), Ok(()));
+    assert_eq!(rt; line.reserve(31, plan(2, 10, 3)), Ok(()));
     assert_eq!(rt; line.enrol(7, 31, -40), Ok(()));
     assert_eq!(rt; line.enrol(8, 31, -40), Ok(()));
     assert_eq!(rt; line.who(), None);
     assert_eq!(rt; line.request(7), Ok(()));
     let active = Service {
-        budget: 2,
-        period: 10,
-        max_stretch: 3,
+        reservation: plan(2, 10, 3),
         remaining: 2,
         deadline: 10,
         served: 0,
@@ -56,9 +55,9 @@ fn a_request_replenishes_a_new_service(rt: HostRuntime) {
 #[test]
 fn the_first_deadline_runs_next(rt: HostRuntime) {
     let mut line = Line::new(Plain);
-    assert_eq!(rt; line.reserve(0, 1, 100, 1), Ok(()));
-    assert_eq!(rt; line.reserve(1, 1, 60, 1), Ok(()));
-    assert_eq!(rt; line.reserve(2, 1, 60, 1), Ok(()));
+    assert_eq!(rt; line.reserve(0, plan(1, 100, 1)), Ok(()));
+    assert_eq!(rt; line.reserve(1, plan(1, 60, 1)), Ok(()));
+    assert_eq!(rt; line.reserve(2, plan(1, 60, 1)), Ok(()));
     assert_eq!(rt; line.enrol(0, 0, 0), Ok(()));
     assert_eq!(rt; line.enrol(1, 1, 0), Ok(()));
     assert_eq!(rt; line.enrol(2, 2, 0), Ok(()));
@@ -74,7 +73,7 @@ fn the_first_deadline_runs_next(rt: HostRuntime) {
 #[test]
 fn the_head_was_requested_first(rt: HostRuntime) {
     let mut line = Line::new(Plain);
-    assert_eq!(rt; line.reserve(5, 1, 60, 16), Ok(()));
+    assert_eq!(rt; line.reserve(5, plan(1, 60, 16)), Ok(()));
     assert_eq!(rt; line.enrol(3, 5, 0), Ok(()));
     assert_eq!(rt; line.enrol(200, 5, 0), Ok(()));
     assert_eq!(rt; line.enrol(100, 5, 0), Ok(()));

@@ -2,6 +2,7 @@
 ghost use Rattle.std.specs.Prelude.{min, max};
 ghost use Rattle.std.proofs.Common.{rules};
 
+use crate::plans::plan;
 use judge::Judge;
 use line::Line;
 
@@ -35,6 +36,6 @@ fn a_judge_from_outside_is_served(rt: HostRuntime) {
     assert_eq!(rt; twice.stretch(0, None, 0, 16), 2);
     assert_eq!(rt; Steady { stretch: 0 }.stretch(0, None, 0, 16), 1);
     let mut line = Line::new(twice);
-    assert_eq!(rt; line.reserve(0, 1, 10, 16), Ok(()));
+    assert_eq!(rt; line.reserve(0, plan(1, 10, 16)), Ok(()));
     assert_eq!(rt; line.enrol(0, 0, 7), Ok(()));
 }

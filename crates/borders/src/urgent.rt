@@ -5,7 +5,7 @@ ghost use Rattle.std.proofs.Common.{rules};
 use urgency::{Candidates, Urgent, most_urgent};
 
 // The lighter the more urgent.
-#[derive(Clone, Copy, PartialEq, Eq, Debug)]
+#[derive(Clone, Copy, PartialEq, Eq, PartialOrd, Ord, Debug)]
 struct Parcel {
     weight: u32,
 }
@@ -20,7 +20,7 @@ impl Urgent for Parcel {
     ghost transitive = { Prim.search rules };
 
     fn is_before(&self, other: &Parcel) -> bool {
-        self.weight < other.weight
+        self < other
     }
 }
 

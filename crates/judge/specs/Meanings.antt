@@ -1,5 +1,5 @@
 -- What a judge means: the stretch that a point's next job gets, from the result of its latest job. Assumes nothing.
-use Rattle.std.specs.Prelude.{ℕ, ◌+◌, ◌-◌, ◌/◌, ◌≤◌, min, cond, ℤ, pos, ◌-ℤ◌, Some, None, Option, ◌==◌, int_le, unsigned_abs}
+use Rattle.std.specs.Prelude.{ℕ, ◌+◌, ◌-◌, ◌/◌, ◌≤◌, min, if◌then◌else◌, ℤ, pos, ◌-ℤ◌, Some, None, Option, ◌==◌, int_le, unsigned_abs}
 
 -- from the result, the result before it or none, the point's threshold and the largest stretch of its service
 abbrev pub Meaning : Type 0
@@ -15,7 +15,7 @@ always_important result before threshold most = 1
 
 -- important from the threshold upwards
 abbrev pub from_threshold : Meaning
-from_threshold result before threshold most = cond (int_le threshold result) 1 most
+from_threshold result before threshold most = if int_le threshold result then 1 else most
 
 -- how far two results lie apart
 abbrev pub distance : ℤ → ℤ → ℕ
@@ -24,13 +24,13 @@ distance a b = unsigned_abs (a -ℤ b)
 -- important where nothing came before, or where the result moved by the threshold or more
 abbrev pub by_slope : Meaning
 by_slope result None threshold most = 1
-by_slope result (Some earlier) threshold most = cond (int_le threshold (pos (distance result earlier))) 1 most
+by_slope result (Some earlier) threshold most = if int_le threshold (pos (distance result earlier)) then 1 else most
 
 -- the width of a grade, 0 counting as 1
 abbrev pub grade_width : ℕ → ℕ
-grade_width width = cond (width == 0) 1 width
+grade_width width = if width == 0 then 1 else width
 
 -- important from the threshold upwards; 2 within the first width below it, 3 within the second, and so on, up to the most
 abbrev pub by_grades : ℕ → Meaning
 by_grades width result before threshold most =
-    cond (int_le threshold result) 1 (min most (2 + (distance threshold result - 1) / grade_width width))
+    if int_le threshold result then 1 else min most (2 + (distance threshold result - 1) / grade_width width)

@@ -2,16 +2,14 @@ pub mod Bordered
 pub mod Fitting
 pub mod Happened
 pub mod Heads
-pub mod Kept
 pub mod Moves
 pub mod Named
 pub mod Read
+pub mod Records
 pub mod Refused
 pub mod Requested
 pub mod Shares
 pub mod Soundness
 pub mod Standing
-pub mod Summed
-pub mod Tables
 pub mod Told
 pub mod Woken

@@ -5,6 +5,7 @@ use Rattle.line.specs.declared.events.Event.TheVariants.{Request}
 use Rattle.line.specs.declared.refusals.Refusal.{Refusal}
 use Rattle.line.specs.declared.refusals.Refusal.TheVariants.{BadPeriod, BadBudget, BadStretch, LineFull}
 use Rattle.line.specs.declared.schedule.Schedule.{Schedule}
+use Rattle.line.specs.declared.services.Reservation.{Reservation}
 use Rattle.line.specs.declared.services.Service.{Service}
 use Rattle.line.specs.declared.services.State.{State}
 use Rattle.line.specs.declared.services.State.TheVariants.{Empty, Active, ShortWait, LongWait}
@@ -12,21 +13,25 @@ use Rattle.line.specs.Calls.{fresh, reserve_answer, after_reserve}
 use Rattle.line.specs.Events.{after_event}
 use Rattle.line.specs.Services.{shares_of}
 
+-- so many slots in every period, with jobs stretched so far
+abbrev plan : ℕ → ℕ → ℕ → Reservation
+plan budget period most = record { budget = budget; period = period; max_stretch = most }
+
 -- a reservation is taken, or refused
 abbrev Taken : Schedule → ℕ → ℕ → ℕ → ℕ → Type 0
-Taken line number budget period most = reserve_answer line number budget period most ≡ Ok tt
+Taken line number budget period most = reserve_answer line number (plan budget period most) ≡ Ok tt
 
 abbrev Refused : Refusal → Schedule → ℕ → ℕ → ℕ → ℕ → Type 0
-Refused refusal line number budget period most = reserve_answer line number budget period most ≡ Err refusal
+Refused refusal line number budget period most = reserve_answer line number (plan budget period most) ≡ Err refusal
 
 -- a line of two services with 5 slots in 10 each
 abbrev pub halves : Schedule
-halves = after_reserve (after_reserve fresh 0 5 10 1) 1 5 10 1
+halves = after_reserve (after_reserve fresh 0 (plan 5 10 1)) 1 (plan 5 10 1)
 
 -- a service as it stands, with stretches up to 16 and nothing served
 abbrev standing : ℕ → ℕ → ℕ → ℕ → State → Service
 standing budget period remaining deadline state =
-    record { budget = budget; period = period; max_stretch = 16; remaining = remaining; deadline = deadline; served = 0; state = state }
+    record { reservation = plan budget period 16; remaining = remaining; deadline = deadline; served = 0; state = state }
 
 -- a service that gets a job of this stretch at this clock becomes another
 abbrev Becomes : Service → ℕ → ℕ → Service → Type 0
@@ -46,13 +51,13 @@ pub record Borders : Type 0 where
   pub period_7 : Refused BadPeriod fresh 0 1 7 1
   -- a budget may fill its period, and then its share is the whole line
   pub budget_10 : Taken fresh 0 10 10 1
-  pub share_10 : shares_of (after_reserve fresh 0 10 10 1).services ≡ 3600
+  pub share_10 : shares_of (after_reserve fresh 0 (plan 10 10 1)).services ≡ 3600
   pub budget_11 : Refused BadBudget fresh 0 11 10 1
   pub stretch_16 : Taken fresh 0 1 10 16
   pub stretch_17 : Refused BadStretch fresh 0 1 10 17
   -- two halves fill a line, and not one slot in an hour is left
   pub first_half : Taken fresh 0 5 10 1
-  pub second_half : Taken (after_reserve fresh 0 5 10 1) 1 5 10 1
+  pub second_half : Taken (after_reserve fresh 0 (plan 5 10 1)) 1 5 10 1
   pub third : Refused LineFull halves 2 1 3600 1
   -- with 9 left of 10 in 100 a request resumes while 10 × 91 is above 9 × 100, and is replenished from there on
   pub resumed_at_9 : Becomes (tens 9 Empty) 1 9 (tens 9 Active)

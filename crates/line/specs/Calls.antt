@@ -1,57 +1,51 @@
 -- The rule of each call: when it is refused, what it answers, and the whole schedule afterwards. Assumes nothing.
-use Rattle.std.specs.Prelude.{ℕ, ◌+◌, cond, not, List, [], ◌∷◌, ℤ, is_some, Some, None, Err, Option, Result, nat_le, nat_lt}
+use Rattle.std.specs.Prelude.{ℕ, ◌+◌, if◌then◌else◌, not, List, [], ◌∷◌, ℤ, is_some, Some, None, Err, Option, Result, nat_le, nat_lt}
 use Rattle.std.specs.Option.{ok_or, option_map}
 use Rattle.line.specs.declared.events.Event.TheVariants.{Request}
 use Rattle.line.specs.declared.jobs.Job.{Job}
 use Rattle.line.specs.declared.points.Point.{Point}
 use Rattle.line.specs.declared.points.PointRecord.{PointRecord}
-use Rattle.line.specs.declared.points.Points.{Points}
 use Rattle.line.specs.declared.refusals.Refusal.{Refusal}
 use Rattle.line.specs.declared.refusals.Refusal.TheVariants.{NoSuchService, NoSuchPoint, ServiceTaken, BadPeriod, BadBudget, BadStretch, LineFull, ServiceUnknown, PointTaken, PointUnknown, StillWaiting}
 use Rattle.line.specs.declared.schedule.Schedule.{Schedule}
+use Rattle.line.specs.declared.services.Reservation.{Reservation}
 use Rattle.line.specs.declared.services.Service.{Service}
 use Rattle.line.specs.declared.turns.Turn.{Turn}
 use Rattle.line.specs.Bounds.{full_share, service_places, point_places}
 use Rattle.line.specs.Events.{with_event}
 use Rattle.line.specs.Jobs.{head_of}
-use Rattle.line.specs.Points.{new_point, no_points, point_at, with_point, waits, asking, point_record}
+use Rattle.line.specs.Points.{Points, new_point, waits, asking, point_record}
 use Rattle.line.specs.Refusals.{Row, row, verdict, settled}
-use Rattle.line.specs.Services.{bad_period, bad_budget, bad_stretch, share_of, new_service, no_services, service_at, with_service, shares_of}
+use Rattle.line.specs.Services.{bad_period, bad_budget, bad_stretch, share_of, new_service, shares_of}
 use Rattle.line.specs.Turns.{next_turn}
+use Rattle.line.specs.Tables.{no_records, record_at, with_record}
 
 -- ---- a fresh line
 
 abbrev pub fresh : Schedule
-fresh = record { clock = 0; unused = 0; requests = 0; services = no_services; points = no_points }
+fresh = record { clock = 0; unused = 0; requests = 0; services = no_records; points = no_records }
 
 -- ---- reserve
 
-abbrev pub reserve_rows : Schedule → ℕ → ℕ → ℕ → ℕ → List Row
-reserve_rows line number budget period most =
+abbrev pub reserve_rows : Schedule → ℕ → Reservation → List Row
+reserve_rows line number asked =
     row NoSuchService (nat_le service_places number) ∷
-    row ServiceTaken (is_some (service_at line.services number)) ∷
-    row BadPeriod (bad_period period) ∷
-    row BadBudget (bad_budget budget period) ∷
-    row BadStretch (bad_stretch most) ∷
-    row LineFull (nat_lt full_share (shares_of line.services + share_of budget period)) ∷
+    row ServiceTaken (is_some (record_at line.services number)) ∷
+    row BadPeriod (bad_period asked.period) ∷
+    row BadBudget (bad_budget asked.budget asked.period) ∷
+    row BadStretch (bad_stretch asked.max_stretch) ∷
+    row LineFull (nat_lt full_share (shares_of line.services + share_of asked)) ∷
     []
 
-abbrev pub reserve_answer : Schedule → ℕ → ℕ → ℕ → ℕ → Result (Unit {0}) Refusal
-reserve_answer line number budget period most = verdict (reserve_rows line number budget period most)
+abbrev pub reserve_answer : Schedule → ℕ → Reservation → Result (Unit {0}) Refusal
+reserve_answer line number asked = verdict (reserve_rows line number asked)
 
 -- the line with one service more
-abbrev pub reserved : Schedule → ℕ → ℕ → ℕ → ℕ → Schedule
-reserved line number budget period most = record {
-  clock = line.clock;
-  unused = line.unused;
-  requests = line.requests;
-  services = with_service line.services number (new_service budget period most line.clock);
-  points = line.points;
-}
+abbrev pub reserved : Schedule → ℕ → Reservation → Schedule
+reserved line number asked = record line { services = with_record line.services number (new_service asked line.clock) }
 
-abbrev pub after_reserve : Schedule → ℕ → ℕ → ℕ → ℕ → Schedule
-after_reserve line number budget period most =
-    settled (reserve_answer line number budget period most) (reserved line number budget period most) line
+abbrev pub after_reserve : Schedule → ℕ → Reservation → Schedule
+after_reserve line number asked = settled (reserve_answer line number asked) (reserved line number asked) line
 
 -- ---- enrol
 
@@ -59,8 +53,8 @@ abbrev pub enrol_rows : Schedule → ℕ → ℕ → List Row
 enrol_rows line point service =
     row NoSuchService (nat_le service_places service) ∷
     row NoSuchPoint (nat_le point_places point) ∷
-    row ServiceUnknown (not (is_some (service_at line.services service))) ∷
-    row PointTaken (is_some (point_at line.points point)) ∷
+    row ServiceUnknown (not (is_some (record_at line.services service))) ∷
+    row PointTaken (is_some (record_at line.points point)) ∷
     []
 
 abbrev pub enrol_answer : Schedule → ℕ → ℕ → Result (Unit {0}) Refusal
@@ -68,13 +62,7 @@ enrol_answer line point service = verdict (enrol_rows line point service)
 
 -- the line with one point more
 abbrev pub enrolled : Schedule → ℕ → ℕ → ℤ → Schedule
-enrolled line point service threshold = record {
-  clock = line.clock;
-  unused = line.unused;
-  requests = line.requests;
-  services = line.services;
-  points = with_point line.points point (new_point service threshold);
-}
+enrolled line point service threshold = record line { points = with_record line.points point (new_point service threshold) }
 
 abbrev pub after_enrol : Schedule → ℕ → ℕ → ℤ → Schedule
 after_enrol line point service threshold =
@@ -85,8 +73,8 @@ after_enrol line point service threshold =
 abbrev pub request_rows : Schedule → ℕ → List Row
 request_rows line point =
     row NoSuchPoint (nat_le point_places point) ∷
-    row PointUnknown (not (is_some (point_at line.points point))) ∷
-    row StillWaiting (waits (point_at line.points point)) ∷
+    row PointUnknown (not (is_some (record_at line.points point))) ∷
+    row StillWaiting (waits (record_at line.points point)) ∷
     []
 
 abbrev pub request_answer : Schedule → ℕ → Result (Unit {0}) Refusal
@@ -95,16 +83,14 @@ request_answer line point = verdict (request_rows line point)
 -- the line with one job more, and its service as that leaves it
 abbrev pub requested : Schedule → ℕ → Option Point → Schedule
 requested line number None = line
-requested line number (Some point) = record {
-  clock = line.clock;
-  unused = line.unused;
+requested line number (Some point) = record line {
   requests = line.requests + 1;
   services = with_event line.services point.service (Request point.stretch) line.clock;
-  points = with_point line.points number (asking point line.requests);
+  points = with_record line.points number (asking point line.requests);
 }
 
 abbrev pub after_request : Schedule → ℕ → Schedule
-after_request line point = settled (request_answer line point) (requested line point (point_at line.points point)) line
+after_request line point = settled (request_answer line point) (requested line point (record_at line.points point)) line
 
 -- ---- who
 
@@ -125,19 +111,19 @@ who_answer line = who_of line.points (next_turn line.services)
 abbrev pub service_rows : Schedule → ℕ → List Row
 service_rows line number =
     row NoSuchService (nat_le service_places number) ∷
-    row ServiceUnknown (not (is_some (service_at line.services number))) ∷
+    row ServiceUnknown (not (is_some (record_at line.services number))) ∷
     []
 
 abbrev pub service_answer : Schedule → ℕ → Result Service Refusal
 service_answer line number =
-    cond (nat_le service_places number) (Err NoSuchService) (ok_or (service_at line.services number) ServiceUnknown)
+    if nat_le service_places number then Err NoSuchService else ok_or (record_at line.services number) ServiceUnknown
 
 abbrev pub point_rows : Schedule → ℕ → List Row
 point_rows line number =
     row NoSuchPoint (nat_le point_places number) ∷
-    row PointUnknown (not (is_some (point_at line.points number))) ∷
+    row PointUnknown (not (is_some (record_at line.points number))) ∷
     []
 
 abbrev pub point_answer : Schedule → ℕ → Result PointRecord Refusal
 point_answer line number =
-    cond (nat_le point_places number) (Err NoSuchPoint) (ok_or (option_map point_record (point_at line.points number)) PointUnknown)
+    if nat_le point_places number then Err NoSuchPoint else ok_or (option_map point_record (record_at line.points number)) PointUnknown

@@ -1,14 +1,13 @@
 -- Waiting jobs: their order, and the head of a service. Assumes nothing.
-use Rattle.std.specs.Prelude.{ℕ, Bool, true, cond, not, Some, None, Option, ◌==◌, nat_lt}
+use Rattle.std.specs.Prelude.{ℕ, Bool, true, if◌then◌else◌, not, count_by, Some, None, Option, ◌==◌, nat_lt}
 use Rattle.std.specs.Option.{option_map}
 use Rattle.urgency.specs.Keys.{by, by_then}
 use Rattle.urgency.specs.Urgency.{most_urgent}
 use Rattle.line.specs.declared.jobs.Job.{Job}
 use Rattle.line.specs.declared.points.Point.{Point}
-use Rattle.line.specs.declared.points.Points.{Points}
 use Rattle.line.specs.Bounds.{point_places}
-use Rattle.line.specs.Points.{point_at}
-use Rattle.line.specs.Sums.{sum_below}
+use Rattle.line.specs.Points.{Points, waits}
+use Rattle.line.specs.Tables.{record_at}
 
 -- the smaller stretch first, among equals the one requested first; the point, which never decides, makes any two jobs differ
 abbrev pub job_before : Job → Job → Bool
@@ -21,10 +20,10 @@ job_of held point order = record { stretch = held.stretch; order = order; point 
 -- what a place of the table has for this service
 abbrev pub waiting_job : ℕ → ℕ → Option Point → Option Job
 waiting_job service point None = None
-waiting_job service point (Some held) = cond (held.service == service) (option_map (job_of held point) held.job) None
+waiting_job service point (Some held) = if held.service == service then option_map (job_of held point) held.job else None
 
 abbrev pub job_at : Points → ℕ → ℕ → Option Job
-job_at points service point = waiting_job service point (point_at points point)
+job_at points service point = waiting_job service point (record_at points point)
 
 -- the job that the next slot of a service runs
 abbrev pub head_of : Points → ℕ → Option Job
@@ -38,7 +37,7 @@ order_of None = None
 order_of (Some point) = point.job
 
 abbrev pub order_at : Points → ℕ → Option ℕ
-order_at points number = order_of (point_at points number)
+order_at points number = order_of (record_at points number)
 
 -- a place in the order that is given out already
 abbrev pub given_out : ℕ → Option ℕ → Bool
@@ -51,10 +50,6 @@ differ None other = true
 differ (Some order) None = true
 differ (Some order) (Some other) = not (order == other)
 
-abbrev pub job_count : Option ℕ → ℕ
-job_count None = 0
-job_count (Some order) = 1
-
 -- how many jobs wait
 abbrev pub jobs_of : Points → ℕ
-jobs_of points = sum_below (λ number. job_count (order_at points number)) point_places
+jobs_of points = count_by waits points.records

@@ -11,5 +11,5 @@ pub mod Refusals
 pub mod Services
 pub mod Slots
 pub mod Sound
-pub mod Sums
+pub mod Tables
 pub mod Turns

@@ -1,6 +1,6 @@
 -- The limits on slots, as one statement over every life and every judge. No slot runs yet, so no contract makes it and no proof shows it.
 -- Assumes nothing.
-use Rattle.std.specs.Prelude.{◌≡◌, ℕ, ◌+◌, ◌-◌, ◌*◌, ◌≤◌, false, List, is_ok, Ok}
+use Rattle.std.specs.Prelude.{◌≡◌, ℕ, ◌+◌, ◌-◌, ◌*◌, ◌≤◌, List, IsErr, Ok}
 use Rattle.judge.specs.Meanings.{Meaning, InRange}
 use Rattle.line.specs.declared.services.Service.{Service}
 use Rattle.line.specs.declared.services.State.TheVariants.{Active}
@@ -18,15 +18,15 @@ module _ (meaning : Meaning) where
   -- in any slots in a row since the reservation
   abbrev pub Ceiling : Type 0
   Ceiling = (before during : List Call) (number : ℕ) (service : Service) → Told before number service →
-      count_in meaning number (life meaning before) during * service.period
-      ≤ service.budget * (slots_in meaning (life meaning before) during + 2 * (service.period - service.budget))
+      count_in meaning number (life meaning before) during * service.reservation.period
+      ≤ service.reservation.budget * (slots_in meaning (life meaning before) during + 2 * (service.reservation.period - service.reservation.budget))
 
   -- over (2 × n + 1) × A × P slots in a row, with a job of the service waiting after each call
   abbrev pub Floor : Type 0
   Floor = (before during : List Call) (number : ℕ) (service : Service) → Told before number service → (n : ℕ) →
-      slots_in meaning (life meaning before) during ≡ (2 * n + 1) * (service.max_stretch * service.period) →
+      slots_in meaning (life meaning before) during ≡ (2 * n + 1) * (service.reservation.max_stretch * service.reservation.period) →
       AfterEach meaning (λ line. Busy line number) (life meaning before) during →
-      n * service.budget ≤ count_in meaning number (life meaning before) during
+      n * service.reservation.budget ≤ count_in meaning number (life meaning before) during
 
   -- whenever a life is stopped
   abbrev pub Ahead : Type 0
@@ -35,7 +35,7 @@ module _ (meaning : Meaning) where
 
   -- the count since the reservation is the one that the question tells
   abbrev pub Counted : Type 0
-  Counted = (before during : List Call) (number : ℕ) (service : Service) → is_ok (service_answer (life meaning before) number) ≡ false →
+  Counted = (before during : List Call) (number : ℕ) (service : Service) → IsErr (service_answer (life meaning before) number) →
       service_answer (after_calls meaning (life meaning before) during) number ≡ Ok service →
       count_in meaning number (life meaning before) during ≡ service.served
 

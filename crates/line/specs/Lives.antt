@@ -1,9 +1,9 @@
 -- Lives: one line with one judge, started fresh, and one call after another. Assumes nothing.
-use Rattle.std.specs.Prelude.{ℕ, ◌+◌, cond, List, [], ◌∷◌, ℤ, Some, None, Ok, Err, Option, Result, ◌==◌}
+use Rattle.std.specs.Prelude.{ℕ, ◌+◌, if◌then◌else◌, List, [], ◌∷◌, ℤ, Some, None, Ok, Err, Option, Result, ◌==◌}
 use Rattle.judge.specs.Meanings.{Meaning}
-use Rattle.line.specs.declared.outcomes.Outcome.{Outcome}
 use Rattle.line.specs.declared.refusals.Refusal.{Refusal}
 use Rattle.line.specs.declared.schedule.Schedule.{Schedule}
+use Rattle.line.specs.declared.services.Reservation.{Reservation}
 use Rattle.line.specs.Calls.{fresh, after_reserve, after_enrol, after_request}
 use Rattle.line.specs.Slots.{slot_answer, after_slot}
 
@@ -17,19 +17,20 @@ pub data Question : Type 0 where
 
 -- one call, with any numbers
 pub data Call : Type 0 where
-  -- number, budget, period, largest stretch
-  Reserve : ℕ → ℕ → ℕ → ℕ → Call
+  -- number, and what is asked
+  Reserve : ℕ → Reservation → Call
   -- point, service, threshold
   Enrol : ℕ → ℕ → ℤ → Call
   -- point
   Request : ℕ → Call
   Who : Call
-  Slot : Outcome → Call
+  -- the result with which the job of the slot ended, if it did
+  Slot : Option ℤ → Call
   Ask : Question → Call
 
 -- the line after one call
 abbrev pub after_call : Meaning → Schedule → Call → Schedule
-after_call meaning line (Reserve number budget period most) = after_reserve line number budget period most
+after_call meaning line (Reserve number asked) = after_reserve line number asked
 after_call meaning line (Enrol point service threshold) = after_enrol line point service threshold
 after_call meaning line (Request point) = after_request line point
 after_call meaning line Who = line
@@ -53,7 +54,7 @@ one_slot (Ok next) = 1
 one_slot (Err refusal) = 0
 
 abbrev pub slot_of : Schedule → Call → ℕ
-slot_of line (Reserve number budget period most) = 0
+slot_of line (Reserve number asked) = 0
 slot_of line (Enrol point service threshold) = 0
 slot_of line (Request point) = 0
 slot_of line Who = 0
@@ -63,14 +64,14 @@ slot_of line (Ask question) = 0
 -- it is a service's slot if it answered that service
 abbrev pub named_in : ℕ → Option (ℕ × ℕ) → ℕ
 named_in number None = 0
-named_in number (Some named) = cond (named.0 == number) 1 0
+named_in number (Some named) = if named.0 == number then 1 else 0
 
 abbrev pub own_slot : ℕ → Result (Option (ℕ × ℕ)) Refusal → ℕ
 own_slot number (Ok next) = named_in number next
 own_slot number (Err refusal) = 0
 
 abbrev pub count_of : ℕ → Schedule → Call → ℕ
-count_of number line (Reserve reserved budget period most) = 0
+count_of number line (Reserve reserved asked) = 0
 count_of number line (Enrol point service threshold) = 0
 count_of number line (Request point) = 0
 count_of number line Who = 0

@@ -1,5 +1,5 @@
 -- The fifteen refusals: their numbers, their words, and which one is returned where several apply. Assumes nothing.
-use Rattle.std.specs.Prelude.{◌≡◌, ℕ, ◌≤◌, Bool, true, cond, ◌⊎◌, List, [], ◌∷◌, Some, None, Ok, Err, codes, Option, Result}
+use Rattle.std.specs.Prelude.{◌≡◌, ℕ, ◌≤◌, Bool, IsTrue, if◌then◌else◌, ◌⊎◌, List, [], ◌∷◌, Some, None, Ok, Err, codes, Option, Result}
 use Rattle.line.specs.declared.refusals.Refusal.{Refusal}
 use Rattle.line.specs.declared.refusals.Refusal.TheVariants.{NoSuchService, NoSuchPoint, ServiceTaken, BadPeriod, BadBudget, BadStretch, LineFull, ServiceUnknown, PointTaken, PointUnknown, StillWaiting, SilentWire, ClockSpent, BadLine, WrongSize}
 
@@ -48,7 +48,7 @@ row refusal applies = record { refusal = refusal; applies = applies }
 -- the first that applies, or that the call is done
 abbrev pub verdict : List Row → Result (Unit {0}) Refusal
 verdict [] = Ok tt
-verdict (r ∷ rs) = cond r.applies (Err r.refusal) (verdict rs)
+verdict (r ∷ rs) = if r.applies then Err r.refusal else verdict rs
 
 -- what a call leaves: the change where it is done, and else everything as it was
 abbrev pub settled : {X : Type 0} → Result (Unit {0}) Refusal → X → X → X
@@ -60,7 +60,7 @@ settled (Err refusal) changed same = same
 -- a refusal applies to a call with these rows
 abbrev pub Applies : List Row → Refusal → Type 0
 Applies [] refusal = ⊥
-Applies (r ∷ rs) refusal = ((r.refusal ≡ refusal) × (r.applies ≡ true)) ⊎ Applies rs refusal
+Applies (r ∷ rs) refusal = ((r.refusal ≡ refusal) × IsTrue r.applies) ⊎ Applies rs refusal
 
 -- what is returned of these rows: nothing exactly if none applies, and else the one of smallest number that does
 abbrev pub Smallest : List Row → Option Refusal → Type 0

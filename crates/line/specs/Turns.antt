@@ -3,12 +3,12 @@ use Rattle.std.specs.Prelude.{ℕ, Bool, Some, None, Option}
 use Rattle.urgency.specs.Keys.{by, by_then}
 use Rattle.urgency.specs.Urgency.{most_urgent}
 use Rattle.line.specs.declared.services.Service.{Service}
-use Rattle.line.specs.declared.services.Services.{Services}
 use Rattle.line.specs.declared.services.State.{State}
 use Rattle.line.specs.declared.services.State.TheVariants.{Empty, Active, ShortWait, LongWait}
 use Rattle.line.specs.declared.turns.Turn.{Turn}
 use Rattle.line.specs.Bounds.{service_places}
-use Rattle.line.specs.Services.{service_at}
+use Rattle.line.specs.Tables.{record_at}
+use Rattle.line.specs.Services.{Services}
 
 -- the smaller deadline first, among equals the smaller number
 abbrev pub turn_before : Turn → Turn → Bool
@@ -26,7 +26,7 @@ turn_of number None = None
 turn_of number (Some service) = turn_in service.state number service.deadline
 
 abbrev pub turn_at : Services → ℕ → Option Turn
-turn_at services number = turn_of number (service_at services number)
+turn_at services number = turn_of number (record_at services number)
 
 -- the active service that runs next
 abbrev pub next_turn : Services → Option Turn

@@ -1,11 +1,12 @@
 //! What happens to a service: with its state it gives the next one.
-ghost use Rattle.std.specs.Prelude.{◌≡◌, ◌*◌, ◌<◌, ◌≤◌, length};
-ghost use Rattle.std.specs.Option.{option_map};
-ghost use Rattle.line.specs.Bounds.{full_share, stretch_limit, clock_end, deadline_end};
-ghost use Rattle.line.specs.Events.{Room, RoomAt, with_event, stretch_of, replenished, in_state, wait_of, started, starts_anew, after_event};
-ghost use Rattle.line.specs.Services.{service_at};
+//! That moments are small stands in the contracts: the project keeps the records plain, without an invariant.
+ghost use Rattle.std.specs.Prelude.{◌≡◌, ◌+◌, ◌*◌, ◌^◌, ◌<◌, ◌≤◌, length};
+ghost use Rattle.std.specs.Option.{ForSome};
+ghost use Rattle.line.specs.Bounds.{clock_end, deadline_end};
+ghost use Rattle.line.specs.Events.{InTime, with_event, replenished, in_state, wait_of, started, starts_anew, after_event};
+ghost use Rattle.line.specs.Tables.{record_at};
 
-use crate::services::{Service, Services, State};
+use crate::services::{Reservation, Service, Services, State};
 
 // An event at a service, with the stretch of the job that comes, or of the head.
 #[derive(Clone, Copy)]
@@ -18,27 +19,27 @@ pub(crate) enum Event {
     WakeUp(u32),
 }
 
-// The length of so many periods.
-fn periods(stretch: u32, period: u32) -> u64
-    requires stretch { stretch ≤ stretch_limit }
-    requires period { period ≤ full_share }
-    ensures value { result ≡ stretch * period }
-    ensures bound { result ≤ stretch_limit * full_share }
-{
-    stretch as u64 * period as u64
+impl Reservation {
+    // The length of so many periods, which leaves room for a moment before it.
+    fn periods(self, stretch: u32) -> u64
+        ensures value { result ≡ stretch * self.period }
+        ensures bound { result + 2 ^ 32 < 2 ^ 64 }
+    {
+        stretch as u64 * self.period as u64
+    }
 }
 
 impl Service {
-    // The service's own state and the event together give its next state.
+    // The service's own state and the event together give its next state: one match, as the project asks for here.
+    // The clock stays beside the event: half of the steps below want the stretch or the clock alone.
     pub(crate) fn on(&mut self, event: Event, clock: u64)
-        requires room { Room self.old (stretch_of event) }
-        requires clock { clock ≤ clock_end }
+        requires { InTime self.old clock }
         ensures { self.new ≡ after_event self.old event clock }
     {
         match (self.state, event) {
             (State::Empty, Event::Request(stretch)) => self.start(stretch, clock),
             (State::LongWait(wake), Event::Request(1)) => {
-                self.state = State::ShortWait(wake.min(clock + self.period as u64));
+                self.state = State::ShortWait(wake.min(clock + self.reservation.period as u64));
             }
             (State::Active, Event::Exhaustion(stretch)) => self.wait(stretch),
             (State::ShortWait(_) | State::LongWait(_), Event::WakeUp(stretch)) => {
@@ -52,8 +53,7 @@ impl Service {
 
     // A job comes to an empty service.
     fn start(&mut self, stretch: u32, clock: u64)
-        requires room { Room self.old stretch }
-        requires clock { clock ≤ clock_end }
+        requires { InTime self.old clock }
         ensures { self.new ≡ started self.old stretch clock }
     {
         if self.starts_anew(clock) {
@@ -74,41 +74,29 @@ impl Service {
             return true;
         }
         let ahead = (self.deadline - clock) as u32;
-        self.budget as u64 * ahead as u64 <= self.remaining as u64 * self.period as u64
+        let Reservation { budget, period, .. } = self.reservation;
+        budget as u64 * ahead as u64 <= self.remaining as u64 * period as u64
     }
 
     fn replenish(&mut self, stretch: u32, clock: u64)
-        requires room { Room self.old stretch }
-        requires clock { clock ≤ clock_end }
+        requires { clock ≤ clock_end }
         ensures { self.new ≡ replenished self.old stretch clock }
     {
-        self.remaining = self.budget;
-        self.deadline = clock + periods(stretch, self.period);
+        self.remaining = self.reservation.budget;
+        self.deadline = clock + self.reservation.periods(stretch);
         self.state = State::Active;
     }
 
     // Out of budget, up to the deadline or, with a stretched head, so many periods longer.
     fn wait(&mut self, stretch: u32)
-        requires { Room self.old stretch }
+        requires { self.old.deadline ≤ deadline_end }
         ensures { self.new ≡ in_state self.old (wait_of self.old stretch) }
     {
         self.state = if stretch == 1 {
             State::ShortWait(self.deadline)
         } else {
-            State::LongWait(self.deadline + periods(stretch, self.period))
+            State::LongWait(self.deadline + self.reservation.periods(stretch))
         };
-    }
-}
-
-// An event at what a place of the table holds.
-fn notify(held: &mut Option<Service>, event: Event, clock: u64)
-    requires room { RoomAt held.old (stretch_of event) }
-    requires clock { clock ≤ clock_end }
-    ensures { held.new ≡ option_map (λ service. after_event service event clock) held.old }
-{
-    match held {
-        Some(service) => service.on(event, clock),
-        None => {}
     }
 }
 
@@ -116,10 +104,12 @@ impl Services {
     // An event at one service, whose record is lent and changed in its place.
     pub(crate) fn on(&mut self, number: u32, event: Event, clock: u64)
         requires inside { number < length self.old.records }
-        requires room { RoomAt (service_at self.old number) (stretch_of event) }
-        requires clock { clock ≤ clock_end }
+        requires room { ForSome (record_at self.old number) (λ service. InTime service clock) }
         ensures { self.new ≡ with_event self.old number event clock }
     {
-        notify(&mut self.records[number as usize], event, clock)
+        // An index is plainer than `get_mut`, which would pass over a number past the end and wants a proof by hand.
+        if let Some(service) = &mut self.records[number as usize] {
+            service.on(event, clock)
+        }
     }
 }

@@ -1,11 +1,13 @@
 //! Worked examples of one service and one event, run.
 use crate::events::Event;
-use crate::services::{Service, State};
+use crate::services::{Reservation, Service, State};
 
 const TENS: Service = Service {
-    budget: 10,
-    period: 100,
-    max_stretch: 16,
+    reservation: Reservation {
+        budget: 10,
+        period: 100,
+        max_stretch: 16,
+    },
     remaining: 9,
     deadline: 100,
     served: 0,
@@ -13,9 +15,11 @@ const TENS: Service = Service {
 };
 
 const TWOS: Service = Service {
-    budget: 2,
-    period: 10,
-    max_stretch: 16,
+    reservation: Reservation {
+        budget: 2,
+        period: 10,
+        max_stretch: 16,
+    },
     remaining: 0,
     deadline: 10,
     served: 0,

@@ -2,12 +2,11 @@
 ghost use Rattle.line.specs.Jobs.{job_before, job_at};
 ghost use Rattle.std.proofs.Common.{rules};
 
-use crate::places::record_at;
 use crate::points::Points;
 use urgency::{Candidates, Urgent};
 
-// The job of a point that waits.
-#[derive(Clone, Copy)]
+// The job of a point that waits. Its fields stand in the order in which they decide.
+#[derive(Clone, Copy, PartialEq, Eq, PartialOrd, Ord)]
 pub(crate) struct Job {
     pub(crate) stretch: u32,
     // Its place in the order of requests.
@@ -26,10 +25,7 @@ impl Urgent for Job {
 
     // No two waiting jobs have one order, so the point never decides; it only makes the order tell any two jobs apart.
     fn is_before(&self, other: &Job) -> bool {
-        self.stretch < other.stretch
-            || self.stretch == other.stretch
-                && (self.order < other.order
-                    || self.order == other.order && self.point < other.point)
+        self < other
     }
 }
 
@@ -46,12 +42,11 @@ impl<'a> Candidates for Jobs<'a> {
     ghost at = { λ jobs. job_at jobs.points.now jobs.service };
 
     fn candidate(&self, place: u32) -> Option<Job> {
-        let held = record_at(&self.points.records, place)?;
+        let held = self.points.record_at(place)?;
         if held.service != self.service {
             return None;
         }
-        let order = held.job?;
-        Some(Job {
+        held.job.map(|order| Job {
             stretch: held.stretch,
             order,
             point: place,

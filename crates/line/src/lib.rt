@@ -9,15 +9,14 @@ mod events;
 mod examples;
 mod jobs;
 mod lines;
-mod outcomes;
-mod places;
 mod points;
 mod refusals;
 mod schedule;
 mod services;
+mod tables;
 mod turns;
 
 pub use lines::Line;
 pub use points::{POINTS, PointRecord};
 pub use refusals::Refusal;
-pub use services::{FULL_SHARE, SERVICES, STRETCH_LIMIT, Service, State};
+pub use services::{FULL_SHARE, Reservation, SERVICES, STRETCH_LIMIT, Service, State};

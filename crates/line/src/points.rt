@@ -1,6 +1,8 @@
 //! Points: one meter each, enrolled with a service.
 ghost use Rattle.std.specs.Prelude.{◌≡◌};
-ghost use Rattle.line.specs.Points.{new_point, no_points, asking as with_job, point_record};
+ghost use Rattle.line.specs.Points.{new_point, asking as with_job, point_record};
+
+use crate::tables::Table;
 
 /// Points are numbered 0 to 255.
 pub const POINTS: usize = 256;
@@ -52,39 +54,25 @@ impl Point {
         ensures { result ≡ with_job self order }
     {
         Point {
-            service: self.service,
-            threshold: self.threshold,
-            result: self.result,
-            stretch: self.stretch,
             job: Some(order),
+            ..self
         }
     }
+}
 
-    pub(crate) fn record(self) -> PointRecord
-        ensures { result ≡ point_record self }
-    {
+impl From<Point> for PointRecord {
+    ghost from_gives = { λ point told. told ≡ point_record point };
+
+    fn from(point: Point) -> PointRecord {
         PointRecord {
-            service: self.service,
-            threshold: self.threshold,
-            result: self.result,
-            stretch: self.stretch,
-            waiting: self.job.is_some(),
+            service: point.service,
+            threshold: point.threshold,
+            result: point.result,
+            stretch: point.stretch,
+            waiting: point.job.is_some(),
         }
     }
 }
 
 // The table of points, by number.
-#[derive(Drop)]
-pub(crate) struct Points {
-    pub(crate) records: [Option<Point>; POINTS],
-}
-
-impl Points {
-    pub(crate) fn new() -> Points
-        ensures { result ≡ no_points }
-    {
-        Points {
-            records: [None; POINTS],
-        }
-    }
-}
+pub(crate) type Points = Table<Point, POINTS>;

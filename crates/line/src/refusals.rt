@@ -1,42 +1,43 @@
 //! Why a call is refused. Where several refusals apply, the one of smallest number is returned.
-ghost use Rattle.std.specs.Prelude.{◌≡◌, Some as Shown};
+ghost use Rattle.std.specs.Prelude.{◌≡◌, Some};
 ghost use Rattle.line.specs.Refusals.{number_of, words_of};
 
+use std::error::Error;
 use std::fmt;
 
-/// The fifteen refusals, in the order of their numbers.
+/// The fifteen refusals, with their numbers.
 #[derive(Clone, Copy, PartialEq, Eq, Debug)]
 pub enum Refusal {
     /// The service number is above 31.
-    NoSuchService,
+    NoSuchService = 1,
     /// The point number is above 255.
-    NoSuchPoint,
+    NoSuchPoint = 2,
     /// The number to be reserved is reserved.
-    ServiceTaken,
+    ServiceTaken = 3,
     /// The period is 0 or does not divide 3600.
-    BadPeriod,
+    BadPeriod = 4,
     /// The budget is 0 or above the period.
-    BadBudget,
+    BadBudget = 5,
     /// The largest stretch is 0 or above 16.
-    BadStretch,
+    BadStretch = 6,
     /// The shares would pass 3600.
-    LineFull,
+    LineFull = 7,
     /// The service is not reserved.
-    ServiceUnknown,
+    ServiceUnknown = 8,
     /// The point to be enrolled is enrolled.
-    PointTaken,
+    PointTaken = 9,
     /// The point is not enrolled.
-    PointUnknown,
+    PointUnknown = 10,
     /// The point's job still waits.
-    StillWaiting,
+    StillWaiting = 11,
     /// A slot was told ended with nobody active.
-    SilentWire,
+    SilentWire = 12,
     /// The clock is at its end.
-    ClockSpent,
+    ClockSpent = 13,
     /// A line of a script has none of the forms.
-    BadLine,
+    BadLine = 14,
     /// A script is too long, or a buffer too short.
-    WrongSize,
+    WrongSize = 15,
 }
 
 impl Refusal {
@@ -44,23 +45,7 @@ impl Refusal {
     pub fn number(self) -> u32
         ensures { result ≡ number_of self }
     {
-        match self {
-            Refusal::NoSuchService => 1,
-            Refusal::NoSuchPoint => 2,
-            Refusal::ServiceTaken => 3,
-            Refusal::BadPeriod => 4,
-            Refusal::BadBudget => 5,
-            Refusal::BadStretch => 6,
-            Refusal::LineFull => 7,
-            Refusal::ServiceUnknown => 8,
-            Refusal::PointTaken => 9,
-            Refusal::PointUnknown => 10,
-            Refusal::StillWaiting => 11,
-            Refusal::SilentWire => 12,
-            Refusal::ClockSpent => 13,
-            Refusal::BadLine => 14,
-            Refusal::WrongSize => 15,
-        }
+        self as u32
     }
 
     /// Its words, as they are printed.
@@ -88,10 +73,11 @@ impl Refusal {
 }
 
 impl fmt::Display for Refusal {
-    ghost output = { λ refusal. Shown (words_of refusal) };
+    ghost output = { λ refusal. Some (words_of refusal) };
 
     fn fmt<W: fmt::Write>(&self, f: &mut fmt::Formatter<W>) -> fmt::Result {
-        let words = self.words();
-        write!(f, "{words}")
+        f.write_str(self.words())
     }
 }
+
+impl Error for Refusal {}

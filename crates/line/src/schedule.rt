@@ -1,4 +1,5 @@
 //! All that a line keeps but its judge. The line around it holds the facts that every call keeps.
+//! A look-up is given the refusal of a number past its table, so that a call shows its refusals in their order.
 ghost use Rattle.std.specs.Prelude.{◌≡◌};
 ghost use Rattle.line.specs.Calls.{fresh, reserve_answer, after_reserve, enrol_answer, after_enrol, request_answer, after_request, who_answer, service_answer, point_answer};
 ghost use Rattle.line.specs.Sound.{Sound};
@@ -7,7 +8,8 @@ use crate::events::Event;
 use crate::jobs::Jobs;
 use crate::points::{POINTS, Point, PointRecord, Points};
 use crate::refusals::Refusal;
-use crate::services::{FULL_SHARE, SERVICES, STRETCH_LIMIT, Service, Services, share};
+use crate::services::{FULL_SHARE, Reservation, SERVICES, STRETCH_LIMIT, Service, Services};
+use crate::tables::Table;
 use urgency::most_urgent;
 
 #[derive(Drop)]
@@ -30,29 +32,24 @@ impl Schedule {
             clock: 0,
             unused: 0,
             requests: 0,
-            services: Services::new(),
-            points: Points::new(),
+            services: Table::new(),
+            points: Table::new(),
         }
     }
 
     // Whether a service can be reserved, or the first refusal that applies.
-    fn may_reserve(
-        &self,
-        number: u32,
-        budget: u32,
-        period: u32,
-        max_stretch: u32,
-    ) -> Result<(), Refusal>
-        requires { Sound self.now }
-        ensures { result ≡ reserve_answer self.now number budget period max_stretch }
+    fn may_reserve(&self, number: u32, asked: Reservation) -> Result<(), Refusal>
+        ensures { result ≡ reserve_answer self.now number asked }
     {
-        if number as usize >= SERVICES {
-            return Err(Refusal::NoSuchService);
-        }
-        let taken = self.services.records[number as usize];
+        let taken = self.services.place(number, Refusal::NoSuchService)?;
         if taken.is_some() {
             return Err(Refusal::ServiceTaken);
         }
+        let Reservation {
+            budget,
+            period,
+            max_stretch,
+        } = asked;
         if period == 0 || FULL_SHARE % period != 0 {
             return Err(Refusal::BadPeriod);
         }
@@ -62,45 +59,30 @@ impl Schedule {
         if max_stretch == 0 || max_stretch > STRETCH_LIMIT {
             return Err(Refusal::BadStretch);
         }
-        if self.services.shares() + share(budget, period) > FULL_SHARE {
+        if self.services.shares() + asked.share() > FULL_SHARE as u64 {
             return Err(Refusal::LineFull);
         }
         Ok(())
     }
 
-    pub(crate) fn reserve(
-        &mut self,
-        number: u32,
-        budget: u32,
-        period: u32,
-        max_stretch: u32,
-    ) -> Result<(), Refusal>
-        requires { Sound self.old }
-        ensures answer { result ≡ reserve_answer self.old number budget period max_stretch }
-        ensures after { self.new ≡ after_reserve self.old number budget period max_stretch }
+    pub(crate) fn reserve(&mut self, number: u32, asked: Reservation) -> Result<(), Refusal>
+        ensures answer { result ≡ reserve_answer self.old number asked }
+        ensures after { self.new ≡ after_reserve self.old number asked }
     {
-        self.may_reserve(number, budget, period, max_stretch)?;
-        let service = Service::new(budget, period, max_stretch, self.clock);
-        self.services.records[number as usize] = Some(service);
+        self.may_reserve(number, asked)?;
+        self.services.put(number, Service::new(asked, self.clock));
         Ok(())
     }
 
     // Whether a point can be enrolled, or the first refusal that applies.
     fn may_enrol(&self, point: u32, service: u32) -> Result<(), Refusal>
-        requires { Sound self.now }
         ensures { result ≡ enrol_answer self.now point service }
     {
-        if service as usize >= SERVICES {
-            return Err(Refusal::NoSuchService);
-        }
-        if point as usize >= POINTS {
-            return Err(Refusal::NoSuchPoint);
-        }
-        let known = self.services.records[service as usize];
+        let known = self.services.place(service, Refusal::NoSuchService)?;
+        let taken = self.points.place(point, Refusal::NoSuchPoint)?;
         if known.is_none() {
             return Err(Refusal::ServiceUnknown);
         }
-        let taken = self.points.records[point as usize];
         if taken.is_some() {
             return Err(Refusal::PointTaken);
         }
@@ -108,29 +90,27 @@ impl Schedule {
     }
 
     pub(crate) fn enrol(&mut self, point: u32, service: u32, threshold: i32) -> Result<(), Refusal>
-        requires { Sound self.old }
         ensures answer { result ≡ enrol_answer self.old point service }
         ensures after { self.new ≡ after_enrol self.old point service threshold }
     {
         self.may_enrol(point, service)?;
-        self.points.records[point as usize] = Some(Point::new(service, threshold));
+        self.points.put(point, Point::new(service, threshold));
         Ok(())
     }
 
+    // What every line keeps is asked for here, since the project wants the schedule plain, without an invariant.
+    #[tactic(auto, using(crate::proofs::Requested::requests_bound, crate::proofs::Requested::service_inside, crate::proofs::Requested::request_room))]
     pub(crate) fn request(&mut self, number: u32) -> Result<(), Refusal>
         requires { Sound self.old }
         ensures answer { result ≡ request_answer self.old number }
         ensures after { self.new ≡ after_request self.old number }
     {
-        if number as usize >= POINTS {
-            return Err(Refusal::NoSuchPoint);
-        }
-        let found = self.points.records[number as usize];
+        let found = self.points.place(number, Refusal::NoSuchPoint)?;
         let point = found.ok_or(Refusal::PointUnknown)?;
         if point.job.is_some() {
             return Err(Refusal::StillWaiting);
         }
-        self.points.records[number as usize] = Some(point.asking(self.requests));
+        self.points.put(number, point.asking(self.requests));
         self.requests += 1;
         self.services
             .on(point.service, Event::Request(point.stretch), self.clock);
@@ -150,27 +130,16 @@ impl Schedule {
     }
 
     pub(crate) fn service(&self, number: u32) -> Result<Service, Refusal>
-        requires { Sound self.now }
         ensures { result ≡ service_answer self.now number }
     {
-        if number as usize >= SERVICES {
-            return Err(Refusal::NoSuchService);
-        }
-        let found = self.services.records[number as usize];
+        let found = self.services.place(number, Refusal::NoSuchService)?;
         found.ok_or(Refusal::ServiceUnknown)
     }
 
     pub(crate) fn point(&self, number: u32) -> Result<PointRecord, Refusal>
-        requires { Sound self.now }
         ensures { result ≡ point_answer self.now number }
     {
-        if number as usize >= POINTS {
-            return Err(Refusal::NoSuchPoint);
-        }
-        let found = self.points.records[number as usize];
-        match found {
-            Some(point) => Ok(point.record()),
-            None => Err(Refusal::PointUnknown),
-        }
+        let found = self.points.place(number, Refusal::NoSuchPoint)?;
+        found.map(PointRecord::from).ok_or(Refusal::PointUnknown)
     }
 }

@@ -1,8 +1,9 @@
 //! Services: each reserves a budget of slots in every period of the line.
-ghost use Rattle.std.specs.Prelude.{◌≡◌, ℕ, ◌<◌, ◌≤◌, true, length, Some as Shown};
+ghost use Rattle.std.specs.Prelude.{◌≡◌, ◌*◌, ◌^◌, ◌≤◌, Some};
 ghost use Rattle.line.specs.Bounds.{full_share, service_places};
-ghost use Rattle.line.specs.Services.{new_service, no_services, service_at, share_of, record_share, shares_of, fit, state_words};
+ghost use Rattle.line.specs.Services.{new_service, share_of, shares_of, state_words};
 
+use crate::tables::Table;
 use std::fmt;
 
 /// The share of a whole line: the slots of an hour, one a second.
@@ -28,7 +29,7 @@ pub enum State {
 }
 
 impl fmt::Display for State {
-    ghost output = { λ state. Shown (state_words state) };
+    ghost output = { λ state. Some (state_words state) };
 
     fn fmt<W: fmt::Write>(&self, f: &mut fmt::Formatter<W>) -> fmt::Result {
         match *self {
@@ -40,15 +41,35 @@ impl fmt::Display for State {
     }
 }
 
+/// What a service reserves of the line.
+#[derive(Clone, Copy, PartialEq, Eq, Debug)]
+pub struct Reservation {
+    /// Slots in every period; a budget of 0, or above the period, is refused.
+    pub budget: u32,
+    /// A divisor of 3600, or it is refused.
+    pub period: u32,
+    /// The largest stretch of the service's jobs; any but 1 to 16 is refused.
+    pub max_stretch: u32,
+}
+
+impl Reservation {
+    // The slots of an hour that it comes to; none where the period is 0.
+    #[tactic(auto, using(crate::proofs::Shares::share_bound), unfolding(crate::specs::Services::share_of))]
+    pub(crate) fn share(self) -> u64
+        ensures value { result ≡ share_of self }
+        ensures whole { self.budget ≤ self.period → result ≤ full_share }
+        ensures bound { result ≤ 2 ^ 32 * full_share }
+    {
+        let periods = FULL_SHARE.checked_div(self.period).unwrap_or(0);
+        self.budget as u64 * periods as u64
+    }
+}
+
 /// The record of one service.
 #[derive(Clone, Copy, PartialEq, Eq, Debug)]
 pub struct Service {
-    /// Slots reserved in every period.
-    pub budget: u32,
-    /// A divisor of 3600.
-    pub period: u32,
-    /// The largest stretch of its jobs, 1 to 16.
-    pub max_stretch: u32,
+    /// What it has reserved.
+    pub reservation: Reservation,
     /// Slots left of the budget.
     pub remaining: u32,
     /// The moment by which the budget is to be had; it may lie past the clock's end.
@@ -61,13 +82,11 @@ pub struct Service {
 
 impl Service {
     // A service as it is reserved at this clock.
-    pub(crate) fn new(budget: u32, period: u32, max_stretch: u32, clock: u64) -> Service
-        ensures { result ≡ new_service budget period max_stretch clock }
+    pub(crate) fn new(reservation: Reservation, clock: u64) -> Service
+        ensures { result ≡ new_service reservation clock }
     {
         Service {
-            budget,
-            period,
-            max_stretch,
+            reservation,
             remaining: 0,
             deadline: clock,
             served: 0,
@@ -76,52 +95,19 @@ impl Service {
     }
 }
 
-// The slots of an hour that a budget in a period comes to.
-pub(crate) fn share(budget: u32, period: u32) -> u32
-    requires divisor { 0 < period }
-    requires within { budget ≤ period }
-    ensures value { result ≡ share_of budget period }
-    ensures bound { result ≤ full_share }
-{
-    budget * (FULL_SHARE / period)
-}
-
-fn record_share(held: Option<Service>) -> u32
-    requires { fit held ≡ true }
-    ensures value { result ≡ record_share held }
-    ensures bound { result ≤ full_share }
-{
-    match held {
-        Some(service) => share(service.budget, service.period),
-        None => 0,
-    }
-}
-
 // The table of services, by number.
-#[derive(Drop)]
-pub(crate) struct Services {
-    pub(crate) records: [Option<Service>; SERVICES],
-}
+pub(crate) type Services = Table<Service, SERVICES>;
 
 impl Services {
-    pub(crate) fn new() -> Services
-        ensures { result ≡ no_services }
-    {
-        Services {
-            records: [None; SERVICES],
-        }
-    }
-
     // The shares of all services, added up.
-    pub(crate) fn shares(&self) -> u32
-        requires size { length self.now.records ≡ service_places }
-        requires sound { (k : ℕ) → fit (service_at self.now k) ≡ true }
-        ensures { result ≡ shares_of self.now }
+    pub(crate) fn shares(&self) -> u64
+        ensures value { result ≡ shares_of self.now }
+        ensures bound { result ≤ 2 ^ 32 * full_share * service_places }
     {
-        let records: &[Option<Service>] = &self.records;
         let mut sum = 0;
-        for held in records {
-            sum += record_share(*held);
+        // A loop, as the project asks for here.
+        for held in &self.records {
+            sum += held.map_or(0, |service| service.reservation.share());
         }
         sum
     }

@@ -2,12 +2,11 @@
 ghost use Rattle.line.specs.Turns.{turn_before, turn_at};
 ghost use Rattle.std.proofs.Common.{rules};
 
-use crate::places::record_at;
 use crate::services::{Services, State};
 use urgency::{Candidates, Urgent};
 
-// An active service, waiting for its turn.
-#[derive(Clone, Copy)]
+// An active service, waiting for its turn. Its fields stand in the order in which they decide.
+#[derive(Clone, Copy, PartialEq, Eq, PartialOrd, Ord)]
 pub(crate) struct Turn {
     pub(crate) deadline: u64,
     pub(crate) number: u32,
@@ -23,8 +22,7 @@ impl Urgent for Turn {
     ghost transitive = { Prim.search rules };
 
     fn is_before(&self, other: &Turn) -> bool {
-        self.deadline < other.deadline
-            || self.deadline == other.deadline && self.number < other.number
+        self < other
     }
 }
 
@@ -34,7 +32,7 @@ impl Candidates for Services {
     ghost at = { turn_at };
 
     fn candidate(&self, place: u32) -> Option<Turn> {
-        let held = record_at(&self.records, place)?;
+        let held = self.record_at(place)?;
         match held.state {
             State::Active => Some(Turn {
                 deadline: held.deadline,

@@ -1,20 +1,20 @@
 -- Which of some candidates is the most urgent, under any order of the items. Assumes nothing.
-use Rattle.std.specs.Prelude.{◌≡◌, ℕ, zero, suc, ◌<◌, Bool, true, false, cond, ◌⊎◌, Some, None, Option, ◌≢◌}
+use Rattle.std.specs.Prelude.{◌≡◌, ℕ, zero, suc, ◌<◌, Bool, IsTrue, IsFalse, if◌then◌else◌, ◌⊎◌, Some, None, Option, ◌≢◌}
 
 module _ {X : Type 0} (before : X → X → Bool) where
   -- ---- the laws of an order
 
   -- any two different items are told apart
   abbrev pub Connected : Type 0
-  Connected = (a b : X) → (a ≢ b) → (before a b ≡ true) ⊎ (before b a ≡ true)
+  Connected = (a b : X) → (a ≢ b) → IsTrue (before a b) ⊎ IsTrue (before b a)
 
   -- never both ways round
   abbrev pub Asymmetric : Type 0
-  Asymmetric = (a b : X) → before a b ≡ true → before b a ≡ false
+  Asymmetric = (a b : X) → IsTrue (before a b) → IsFalse (before b a)
 
   -- two steps in a row hold end to end
   abbrev pub Transitive : Type 0
-  Transitive = (a b c : X) → before a b ≡ true → before b c ≡ true → before a c ≡ true
+  Transitive = (a b c : X) → IsTrue (before a b) → IsTrue (before b c) → IsTrue (before a c)
 
   -- ---- the search
 
@@ -22,7 +22,7 @@ module _ {X : Type 0} (before : X → X → Bool) where
   abbrev pub sooner : Option X → Option X → Option X
   sooner None next = next
   sooner (Some best) None = Some best
-  sooner (Some best) (Some next) = cond (before next best) (Some next) (Some best)
+  sooner (Some best) (Some next) = if before next best then Some next else Some best
 
   -- the most urgent of the candidates in the places below n
   unfoldable pub most_urgent : (ℕ → Option X) → ℕ → Option X
@@ -34,4 +34,4 @@ module _ {X : Type 0} (before : X → X → Bool) where
   -- none exactly if no place below n has a candidate, and else the candidate that is before every other
   abbrev pub First : (ℕ → Option X) → ℕ → Option X → Type 0
   First at n None = (place : ℕ) → place < n → at place ≡ None
-  First at n (Some first) = ((place : ℕ) × ((place < n) × (at place ≡ Some first))) × ((place : ℕ) → place < n → (other : X) → at place ≡ Some other → (other ≢ first) → before first other ≡ true)
+  First at n (Some first) = ((place : ℕ) × ((place < n) × (at place ≡ Some first))) × ((place : ℕ) → place < n → (other : X) → at place ≡ Some other → (other ≢ first) → IsTrue (before first other))

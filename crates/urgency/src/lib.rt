@@ -1,4 +1,5 @@
 //! Which of some candidates comes first: one text for every kind of item that has an order.
+//! The clauses `kept` and `other` say what a & says already: the project wants each call to say what it leaves.
 #![tactic(auto)]
 
 ghost use Rattle.std.specs.Prelude.{◌≡◌, ℕ, Bool, Option};
@@ -25,6 +26,7 @@ pub trait Urgent: Copy {
     ghost transitive: { Transitive before };
 }
 
+// Not an iterator: its caller would have to prove that it ends, and the project wants no such demand on a public function.
 /// Numbered places, each of which may hold a candidate.
 pub trait Candidates {
     type Item: Urgent;
@@ -53,12 +55,14 @@ fn more_urgent<T: Urgent>(best: Option<T>, next: Option<T>) -> Option<T>
 }
 
 /// The most urgent of the candidates in the places below `places`.
+#[tactic(auto, using(crate::proofs::Found::most_none, crate::proofs::Found::most_more, crate::proofs::Found::found))]
 pub fn most_urgent<C: Candidates>(candidates: &C, places: u32) -> Option<C::Item>
     ensures value { result ≡ most_urgent C.Item.Urgent.before (C.Candidates.at candidates.now) places }
     ensures first { First C.Item.Urgent.before (C.Candidates.at candidates.now) places result }
     ensures kept { candidates.exit.now ≡ candidates.entry.now }
 {
     let mut best = None;
+    // A loop: a fold by a closure was tried, and with this definition its proof did not close.
     for place in 0..places {
         best = more_urgent(best, candidates.candidate(place));
     }
