@@ -1,5 +1,6 @@
 #!/usr/bin/env bash
 # Lists the places of the design pass in the sources below a folder (the repository by default), and counts them. Nothing runs it.
+# The number before a title is that of the row in the table of docs/DESIGN-PASS.md.
 cd "${1:-$(dirname "${BASH_SOURCE[0]}")/..}" || exit 1
 src=$(find crates/*/src -name '*.rt' | sort)
 proofs=$(find crates/*/proofs -name '*.antt' | sort)

@@ -27,6 +27,7 @@ impl<'a, R: Print, J: Judge> Block<'a, R, J> {
         }
     }
 
+    // The number stays beside what is asked: it says where the one value goes, and is no part of it.
     pub(crate) fn reserve(&mut self, number: u32, asked: Reservation) -> io::Result<()>
         ensures after { self.new.line.schedule ≡ after_reserve self.old.line.schedule number asked }
         ensures judge { self.new.line.judge ≡ self.old.line.judge }

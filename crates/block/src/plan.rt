@@ -10,7 +10,7 @@ pub(crate) struct Enrolment {
     pub(crate) threshold: i32,
 }
 
-// Each with the number of its service.
+// Each with the number of its service, which says where the reservation goes and is no part of it.
 pub(crate) const RESERVATIONS: [(u32, Reservation); 10] = [
     // Quarter-hour reads of the flats' meters.
     (

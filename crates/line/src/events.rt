@@ -31,7 +31,7 @@ impl Reservation {
 
 impl Service {
     // The service's own state and the event together give its next state: one match, as the project asks for here.
-    // The clock stays beside the event: half of the steps below want the stretch or the clock alone.
+    // The clock stays beside the event: of the four steps below two want the stretch or the clock alone.
     pub(crate) fn on(&mut self, event: Event, clock: u64)
         requires { InTime self.old clock }
         ensures { self.new ≡ after_event self.old event clock }
@@ -101,7 +101,7 @@ impl Service {
 }
 
 impl Services {
-    // An event at one service, whose record is lent and changed in its place.
+    // An event at one service, whose record is lent and changed in its place. The clock stays beside the event, as above.
     pub(crate) fn on(&mut self, number: u32, event: Event, clock: u64)
         requires inside { number < length self.old.records }
         requires room { ForSome (record_at self.old number) (λ service. InTime service clock) }

@@ -36,7 +36,7 @@ pub struct PointRecord {
 }
 
 impl Point {
-    // A point as it is enrolled.
+    // A point as it is enrolled. Service and threshold are two arguments, as in the call that enrols it.
     pub(crate) fn new(service: u32, threshold: i32) -> Point
         ensures { result ≡ new_point service threshold }
     {

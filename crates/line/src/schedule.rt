@@ -1,5 +1,7 @@
 //! All that a line keeps but its judge. The line around it holds the facts that every call keeps.
 //! A look-up is given the refusal of a number past its table, so that a call shows its refusals in their order.
+//! A service's number stays beside what it reserves, since it says where the one value goes; a point's service and threshold stay two
+//! arguments, since whether it can be enrolled is a question of the service alone.
 ghost use Rattle.std.specs.Prelude.{◌≡◌};
 ghost use Rattle.line.specs.Calls.{fresh, reserve_answer, after_reserve, enrol_answer, after_enrol, request_answer, after_request, who_answer, service_answer, point_answer};
 ghost use Rattle.line.specs.Sound.{Sound};
@@ -98,7 +100,7 @@ impl Schedule {
         Ok(())
     }
 
-    // What every line keeps is asked for here, since the project wants the schedule plain, without an invariant.
+    // What every line keeps is asked for here: the project wants the struct within the line plain, without an invariant.
     #[tactic(auto, using(crate::proofs::Requested::requests_bound, crate::proofs::Requested::service_inside, crate::proofs::Requested::request_room))]
     pub(crate) fn request(&mut self, number: u32) -> Result<(), Refusal>
         requires { Sound self.old }

@@ -1,4 +1,4 @@
--- Without this the check finds it only close to a limit of its search.
+-- The project wants no proof close to a limit of the search; without this the check finds it only there.
 use Rattle.std.proofs.Common.{◌≡◌, rules}
 use Rattle.line.specs.Calls.{after_enrol}
 use Rattle.line.proofs.Told.{enrol_told}
