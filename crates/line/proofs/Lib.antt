@@ -11,5 +11,6 @@ pub mod Requested
 pub mod Shares
 pub mod Soundness
 pub mod Standing
+pub mod Summed
 pub mod Told
 pub mod Woken

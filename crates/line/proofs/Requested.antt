@@ -1,5 +1,6 @@
 -- What a request finds and leaves. Assumes nothing.
 use Rattle.std.proofs.Common.{◌≡◌, ◌≢◌, ℕ, ◌+◌, ◌<◌, ◌≤◌, true, false, not, length, is_some, Some, None, Ok, Option, ⊎_elim, arith}
+use Rattle.std.specs.Prelude.{nat_le}
 use Rattle.std.specs.Option.{ForSome}
 use Rattle.std.proofs.lemmas.List.{length-set}
 use Rattle.std.proofs.lemmas.List.Sums.{count_by-le-length}
@@ -16,11 +17,12 @@ use Rattle.line.specs.Jobs.{job_at, head_of, differ, given_out}
 use Rattle.line.specs.Points.{Points, waits, asking}
 use Rattle.line.specs.Services.{Services, idle, empty_state}
 use Rattle.line.specs.Sound.{Sound}
-use Rattle.line.proofs.Fitting.{Steady, fitting, steadying, steadied, allowance, room}
+use Rattle.line.proofs.Fitting.{Steady, fitting, steadying, steadied, allowance, RoomAt, room}
 use Rattle.line.proofs.Happened.{keeps_plan, request_busy, request_steady}
 use Rattle.line.proofs.Heads.{head_same, head_there, jobs_changed}
 use Rattle.line.proofs.Refused.{settled_keeps}
 use Rattle.line.proofs.Shares.{shares_kept}
+use Rattle.line.proofs.Soundness.{owed}
 use Rattle.line.proofs.Records.{there_inside, placed}
 use Rattle.line.specs.Tables.{record_at, with_record}
 
@@ -34,9 +36,14 @@ requests_bound line sound = omega (arith, count_by-le-length waits line.points.r
 pub service_inside : (line : Schedule) (number : ℕ) (point : Point) → Sound line → record_at line.points number ≡ Some point → point.service < length line.services.records
 service_inside line number point sound found = grind (arith, there_inside, sound.belongs number)
 
+-- the numbers of a point's service and of its stretch are small
+pub service_room : (line : Schedule) (number : ℕ) (point : Point) → Sound line → record_at line.points number ≡ Some point → RoomAt (record_at line.services point.service) point.stretch
+service_room line number point sound found =
+    room line.clock point.stretch (record_at line.services point.service) sound.clock (sound.fits point.service) (sound.steadies point.service) (grind (arith, sound.stretches number))
+
 pub request_room : (line : Schedule) (number : ℕ) (point : Point) → Sound line → record_at line.points number ≡ Some point → ForSome (record_at line.services point.service) (λ service. InTime service line.clock)
 request_room line number point sound found service there =
-    let small = room line.clock point.stretch (record_at line.services point.service) sound.clock (sound.fits point.service) (sound.steadies point.service) (grind (arith, sound.stretches number)) in
+    let small = service_room line number point sound found in
     grind arith
 
 -- the next place in the order of requests is no job's yet
@@ -112,6 +119,15 @@ module _ (line : Schedule) (sound : Sound line) (number : ℕ) (point : Point) (
   pub requested_sound : Sound (requested line number (Some point))
   requested_sound = rw event_there met
 
+-- what a request that is done has passed
+pub record Passed (line : Schedule) (number : ℕ) : Type 0 where
+  pub inside : nat_le point_places number ≡ false
+  pub known : is_some (record_at line.points number) ≡ true
+  pub quiet : waits (record_at line.points number) ≡ false
+
+pub request_passed : (line : Schedule) (number : ℕ) → request_answer line number ≡ Ok tt → Passed line number
+request_passed line number done = grind arith
+
 -- what a request that is done has met
 pub record Asked (line : Schedule) (number : ℕ) : Type 0 where
   pub point : Point
@@ -122,7 +138,7 @@ pub record Asked (line : Schedule) (number : ℕ) : Type 0 where
   pub served_by : record_at line.services point.service ≡ Some service
 
 pub asked : (line : Schedule) (number : ℕ) → Sound line → request_answer line number ≡ Ok tt → Asked line number
-asked line number sound done = grind (arith, sound.belongs number)
+asked line number sound done = grind (arith, request_passed line number done, sound.belongs number)
 
 -- what holds of a request wherever it meets a point without a job and its service, holds where it is done
 pub at_request : (P : Schedule → Type 0) (line : Schedule) (number : ℕ) → Sound line → ((point : Point) (service : Service) → number < point_places → record_at line.points number ≡ Some point → point.job ≡ None → record_at line.services point.service ≡ Some service → P (requested line number (Some point))) → request_answer line number ≡ Ok tt → P (requested line number (record_at line.points number))
@@ -133,7 +149,7 @@ at_request P line number sound met done =
 -- a line as the rule of a request says is sound again
 pub request_sound : (line after : Schedule) (number : ℕ) → after ≡ after_request line number → Sound line → Sound after
 request_sound line after number ruled sound =
-    rw ruled
+    owed after _ ruled
     (settled_keeps Sound (request_answer line number) _ line
     (at_request Sound line number sound (λ point service. requested_sound line sound number point service))
     sound)

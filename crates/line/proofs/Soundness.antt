@@ -1,5 +1,5 @@
 -- That a fresh line is sound, and that a reservation and an enrolment leave it so. Assumes nothing.
-use Rattle.std.proofs.Common.{◌≡◌, ℕ, ◌+◌, ◌<◌, ◌≤◌, true, length, ℤ, is_some, Some, None, Ok, Option, refl, arith}
+use Rattle.std.proofs.Common.{◌≡◌, ℕ, ◌+◌, ◌<◌, ◌≤◌, true, not, length, ℤ, is_some, Some, None, Ok, Option, refl, arith}
 use Rattle.std.proofs.lemmas.List.{length-set}
 use Rattle.line.specs.declared.points.Point.{Point}
 use Rattle.line.specs.declared.schedule.Schedule.{Schedule}
@@ -7,22 +7,26 @@ use Rattle.line.specs.declared.services.Reservation.{Reservation}
 use Rattle.line.specs.declared.services.Service.{Service}
 use Rattle.line.specs.Bounds.{full_share, service_places, point_places}
 use Rattle.line.specs.Calls.{fresh, reserve_answer, reserved, after_reserve, enrol_answer, enrolled, after_enrol}
-use Rattle.line.specs.Jobs.{job_at}
+use Rattle.line.specs.Jobs.{job_at, head_of}
 use Rattle.line.specs.Points.{Points, new_point, stretch_within}
-use Rattle.line.specs.Services.{share_of, new_service, shares_of, fit}
+use Rattle.line.specs.Services.{share_of, new_service, shares_of, fit, idle, steady}
 use Rattle.line.specs.Sound.{Sound}
 use Rattle.line.proofs.Fitting.{fitting}
 use Rattle.line.proofs.Heads.{no_head, head_same, jobs_changed}
 use Rattle.line.proofs.Refused.{settled_keeps}
 use Rattle.line.proofs.Shares.{shares_more}
-use Rattle.line.proofs.Records.{none_anywhere, placed}
+use Rattle.line.proofs.Records.{none_anywhere, placed, at_every_place}
 use Rattle.line.specs.Tables.{no_records, record_at, with_record}
+
+-- a line that is as the rule says keeps what the rule keeps
+pub owed : (after rule : Schedule) → after ≡ rule → Sound rule → Sound after
+owed after rule ruled sound = rw ruled sound
 
 -- ---- a fresh line
 
 pub fresh_sound : (line : Schedule) → line ≡ fresh → Sound line
 unfolding no_records
-fresh_sound line ruled = rw ruled record {
+fresh_sound line ruled = owed line fresh ruled record {
   within = omega arith;
   fits = λ k. rw none_anywhere;
   belongs = λ k. rw none_anywhere;
@@ -52,14 +56,15 @@ admitted line number asked done = grind arith
 reserved_sound : (line : Schedule) (number : ℕ) (asked : Reservation) → Sound line → Admitted line number asked → Sound (reserved line number asked)
 reserved_sound line number asked sound ok =
     let inside : number < length line.services.records = omega arith in
+    let new = new_service asked line.clock in
     record {
       within = grind (arith, shares_more);
-      fits = λ k. grind (arith, placed, sound.fits k);
+      fits = at_every_place (λ k held. fit held ≡ true) line.services.records number new inside sound.fits ok.fits;
       belongs = λ k. grind (arith, placed, sound.belongs k);
       clock = sound.clock;
-      steadies = λ k. grind (arith, placed, sound.steadies k);
+      steadies = at_every_place (λ k held. steady line.clock held ≡ true) line.services.records number new inside sound.steadies (grind arith);
       stretches = λ k. grind (arith, placed, sound.belongs k, sound.stretches k);
-      empties = λ k. grind (arith, placed, sound.empties k);
+      empties = at_every_place (λ k held. idle held ≡ not (is_some (head_of line.points k))) line.services.records number new inside sound.empties (grind (arith, sound.empties number));
       orders = sound.orders;
       given = sound.given;
       requests = sound.requests;
@@ -70,7 +75,7 @@ reserved_sound line number asked sound ok =
 -- a line as the rule of a reservation says is sound again
 pub reserve_sound : (line after : Schedule) (number : ℕ) (asked : Reservation) → after ≡ after_reserve line number asked → Sound line → Sound after
 reserve_sound line after number asked ruled sound =
-    rw ruled (settled_keeps Sound (reserve_answer line number asked) _ line (λ done. reserved_sound line number asked sound (admitted line number asked done)) sound)
+    owed after _ ruled (settled_keeps Sound (reserve_answer line number asked) _ line (λ done. reserved_sound line number asked sound (admitted line number asked done)) sound)
 
 -- ---- an enrolment
 
@@ -114,4 +119,4 @@ enrolled_sound line point service threshold sound ok =
 -- a line as the rule of an enrolment says is sound again
 pub enrol_sound : (line after : Schedule) (point service : ℕ) (threshold : ℤ) → Sound line → after ≡ after_enrol line point service threshold → Sound after
 enrol_sound line after point service threshold sound ruled =
-    rw ruled (settled_keeps Sound (enrol_answer line point service) _ line (λ done. enrolled_sound line point service threshold sound (joined line point service done)) sound)
+    owed after _ ruled (settled_keeps Sound (enrol_answer line point service) _ line (λ done. enrolled_sound line point service threshold sound (joined line point service done)) sound)

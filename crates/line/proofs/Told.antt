@@ -9,7 +9,7 @@ use Rattle.line.specs.declared.schedule.Schedule.{Schedule}
 use Rattle.line.specs.declared.services.Reservation.{Reservation}
 use Rattle.line.specs.declared.services.Service.{Service}
 use Rattle.line.specs.Bounds.{point_places}
-use Rattle.line.specs.Calls.{reserve_rows, reserve_answer, reserved, after_reserve, enrol_rows, enrol_answer, enrolled, after_enrol, request_answer, requested, after_request, who_of, point_answer}
+use Rattle.line.specs.Calls.{reserve_rows, reserve_answer, reserved, after_reserve, enrol_rows, enrol_answer, enrolled, after_enrol, request_rows, request_answer, requested, after_request, who_of, point_answer}
 use Rattle.line.specs.Laws.{Reserves, Enrols, Requests, Belongs, Stretched}
 use Rattle.line.specs.Events.{after_event}
 use Rattle.line.specs.Points.{point_record}
@@ -94,6 +94,9 @@ pub request_told : (line after : Schedule) (number : ℕ) (answer : Result (Unit
 request_told line after number answer sound answered ruled =
     told_if_done (λ l. Requests line l number) answer (request_answer line number) after _ line answered ruled
     (at_request (λ l. Requests line l number) line number sound (requested_told line number sound))
+
+pub request_smallest : (line : Schedule) (number : ℕ) (answer : Result (Unit {0}) Refusal) → answer ≡ request_answer line number → Smallest (request_rows line number) (result_err answer)
+request_smallest line number answer answered = answers_smallest (request_rows line number) answer refl answered
 
 -- ---- a point's service
 

@@ -11,5 +11,6 @@ pub mod Refusals
 pub mod Services
 pub mod Slots
 pub mod Sound
+pub mod Sums
 pub mod Tables
 pub mod Turns

@@ -60,7 +60,7 @@ impl<J: Judge> Line<J> {
     }
 
     /// Adds a job of this point to those waiting, with the stretch that the point has now.
-    #[tactic(auto, using(crate::proofs::Told::request_told))]
+    #[tactic(auto, using(crate::proofs::Told::request_told, crate::proofs::Told::request_smallest))]
     pub fn request(&mut self, point: u32) -> Result<(), Refusal>
         ensures answer { result ≡ request_answer self.old.schedule point }
         ensures after { self.new.schedule ≡ after_request self.old.schedule point }

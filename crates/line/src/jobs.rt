@@ -46,7 +46,8 @@ impl<'a> Candidates for Jobs<'a> {
         if held.service != self.service {
             return None;
         }
-        held.job.map(|order| Job {
+        let order = held.job?;
+        Some(Job {
             stretch: held.stretch,
             order,
             point: place,

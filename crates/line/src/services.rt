@@ -107,7 +107,9 @@ impl Services {
         let mut sum = 0;
         // A loop, as the project asks for here.
         for held in &self.records {
-            sum += held.map_or(0, |service| service.reservation.share());
+            if let Some(service) = held {
+                sum += service.reservation.share();
+            }
         }
         sum
     }
